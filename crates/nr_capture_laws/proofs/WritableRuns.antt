@@ -54,9 +54,8 @@ use Rattle.nr_capture.proofs.WrittenCaptures.{capture_back}
 use Rattle.nr_drill.specs.Drill.{SerialServer, link_of as mark_link}
 use Rattle.nr_drill.specs.Follows.{parameters_of}
 use Rattle.nr_drill.specs.Headline.{IsDrillRun}
-use Rattle.nr_drill.specs.private.Drafts.{NumberedMark}
-use Rattle.nr_drill.proofs.Followed.{KeepsAll, follows_keeps_laws}
-use Rattle.nr_drill.proofs.Numbering.{drill_numbered}
+use Rattle.nr_drill.proofs.Followed.{KeepsAll}
+use Rattle.nr_drill.proofs.FirstRuns.{first_laws, first_link}
 use Rattle.nr_capture_laws.specs.ReadBack.{RunsAreReadBack, RunsAreWritable}
 use Rattle.nr_capture_laws.proofs.WritableLines.{AreWritable, made_is_writable, read_is_writable}
 use Rattle.nr_capture_laws.proofs.WritableSteps.{CanWriteMarks, CanWriteMark, follows_writable}
@@ -154,14 +153,13 @@ module _ (server : SerialServer) (script : ScriptLines) (run : List Mark) (is : 
   at_mark before mark after e =
       let link = mark_link mark in
       let opened = parameters_of script.opening link in
-      let n : NumberedMark script.opening.clients before mark =
-      AtEachMark_at (NumberedMark script.opening.clients) [] before mark after (subst (AtEachMark (NumberedMark script.opening.clients) []) e (drill_numbered server script run is is.unnumbered d.follows)) in
-      let laws : KeepsAll opened link run = follows_keeps_laws server script run is is.unnumbered d.follows link n.above n.within in
+      let n = first_link server script run is is.unnumbered d before after mark e in
+      let laws : KeepsAll opened link run = first_laws server script run is is.unnumbered d link n.0 n.1 in
       let typed : AtEachMark TypedMark [] (before ++ mark ∷ after) = subst (AtEachMark TypedMark []) e d.typed in
       let asked = subst (AtEachMark (AskedMark IsAll opened link) []) e laws.asked.each in
       let served = subst (AtEachMark (ServedMark IsAll opened link) []) e laws.served.each in
       record {
-        is_link_of = both_true (leb 1 link) (leb link script.opening.clients) (le-leb 1 link n.above) (le-leb link script.opening.clients n.within);
+        is_link_of = both_true (leb 1 link) (leb link script.opening.clients) (le-leb 1 link n.0) (le-leb link script.opening.clients n.1);
         typed = AtEachMark_first TypedMark [] before (mark ∷ after) typed;
         typed_mark = AtEachMark_at TypedMark [] before mark after typed;
         asked_before = AtEachMark_first (AskedMark IsAll opened link) [] before (mark ∷ after) asked;

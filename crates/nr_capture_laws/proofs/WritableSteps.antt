@@ -38,7 +38,7 @@ use Rattle.nr_drill.specs.Drill.{SerialServer, Setting, Drill, Pipes, now, unwri
 use Rattle.nr_drill.specs.Follows.{Drains, Follows, setting_of, opened_drill}
 use Rattle.nr_drill.specs.Lines.{IsUnnumbered}
 use Rattle.nr_drill.specs.Unnumbered.{AreFirst, FirstMakes, FirstMakeAll, UnnumberedMark}
-use Rattle.nr_drill.proofs.Carried.{follows_made}
+use Rattle.nr_drill.proofs.FirstLines.{follows_made}
 use Rattle.nr_drill.proofs.FirstLinks.{down_is, opened_firsts}
 use Rattle.nr_drill.proofs.Journals.{follows_is_plain}
 use Rattle.nr_capture_laws.proofs.WritableLines.{IsWritableLine, AreWritable}

@@ -1,31 +1,34 @@
 -- A drill whose server replies in bytes: its marks are of their types, and the payloads of its executed calls are bytes.
+use Rattle.std.specs.Prelude.{◌-◌}
 use Rattle.std.specs.List.{AllByRecursion}
-use Rattle.std.proofs.Common.{◌≡◌, ℕ, Bool, true, false, List, [], ◌∷◌, ◌++◌, length, Option, None, Some, sym, subst}
+use Rattle.std.proofs.Common.{◌≡◌, ℕ, suc, ◌+◌, ◌≤◌, arith, Bool, true, false, List, [], ◌∷◌, ◌++◌, length, Option, None, Some, sym, subst}
 use Rattle.nr_xdr.specs.Item.{IsBytes}
+use Rattle.nr_wire.specs.declared.hello.Side.TheVariants.{Initiator}
 use Rattle.nr_reduce.specs.declared.mark.Mark.{Mark}
 use Rattle.nr_reduce.specs.declared.mark.Mark.TheVariants as marks
 use Rattle.nr_reduce.specs.ServerState.{ReadyCall}
 use Rattle.nr_reduce.specs.Run.{server}
 use Rattle.nr_reduce.specs.Served.{next_call, first_ready}
 use Rattle.nr_reduce.specs.History.{is_dropped}
+use Rattle.nr_reduce.proofs.SoFarLaws.{AtEachMark_each}
 use Rattle.nr_reduce.proofs.Standing.{AtEachMark_more}
 use Rattle.nr_link.specs.declared.end.End.{End}
-use Rattle.nr_laws.specs.Typed.{IsTyped}
-use Rattle.nr_script.specs.declared.script.Line.{Line}
-use Rattle.nr_script.specs.Script.{ScriptLines, IsTypedLine, IsScript}
-use Rattle.nr_drill.specs.Drill.{SerialServer, Setting, Drill, pipes_of, start, links_of, if_standing, waiting_call}
-use Rattle.nr_drill.specs.Follows.{setting_of, opened_drill}
-use Rattle.nr_drill.specs.WorkLeft.{DrainStep, after_step}
-use Rattle.nr_drill.specs.WorkLeft.DrainStep.{AllUp, Work, AllDown}
-use Rattle.nr_drill.specs.InBytes.{ExecutedMark, ExecutedInBytes}
-use Rattle.nr_drill.specs.Drains.{AnswersInBytes}
+use Rattle.nr_laws.specs.Typed.{TypedMark, IsTyped}
+use Rattle.nr_byte_laws.specs.DueBytes.{AreInBytes}
 use Rattle.nr_byte_laws.proofs.ByteServers.{ReadyOfBytes, ready_bytes}
-use Rattle.nr_drill.proofs.TypedDrills.{IsTypedDrill, AddsQuiet, KeptBySteps, marked, up_keeps, down_keeps, work_keeps, lines_keep, openings_keep, start_typed}
+use Rattle.nr_texts.specs.declared.opening.Opening.{Opening}
+use Rattle.nr_script.specs.Limits.{lines_max}
+use Rattle.nr_script.specs.Script.{ScriptLines}
+use Rattle.nr_drill.specs.Lines.{IsDrillScript}
+use Rattle.nr_drill.specs.Drill.{SerialServer, Setting, Drill, setting_now, start, links_of, if_standing, waiting_call, after_opening, after_openings}
+use Rattle.nr_drill.specs.Follows.{Follows, setting_of, opened_drill}
+use Rattle.nr_drill.specs.InBytes.{RepliedMark, RepliedInBytes, ExecutedMark, ExecutedInBytes}
+use Rattle.nr_drill.specs.Drains.{AnswersInBytesAt, AnswersInBytes}
+use Rattle.nr_drill.proofs.TypedDrills.{IsTypedDrill, ResumedTyped, AddsQuiet, KeptBySteps, marked, with_cred_at_lem, action_keeps_steps, opening_keeps_steps, start_typed}
 use Rattle.nr_drill.proofs.TypedDrills.AddsQuiet.{Same, More}
-use Rattle.nr_drill.proofs.LessScripts.{all_front}
-use Rattle.nr_drill.specs.Lines.{IsUnnumbered}
-use Rattle.nr_drill.proofs.FirstLinks.{opened_firsts}
-use Rattle.nr_drill.specs.Unnumbered.{AreFirst, FirstMakeAll}
+use Rattle.nr_drill.proofs.Actions.{IsKept, AnyRaw, all_act, lines_of, lines_kept}
+use Rattle.nr_drill.proofs.Links.{link_bytes}
+use Rattle.nr_drill.proofs.BegunLinks.{Holds, begun_drill, next_link, begins_so, begun_typed, new_holds, holds_kept, counted_most, first_then}
 
 pub record IsByteDrill (d : Drill) : Type 0 where
   pub typed : IsTypedDrill d
@@ -58,42 +61,101 @@ quiet_executed : (s : Setting) (old new : Drill) → AddsQuiet s old new → Exe
 quiet_executed s old new (Same is) h = subst ExecutedInBytes (sym is) h
 quiet_executed s old new (More mark none other is) h = subst ExecutedInBytes (sym is) (executed_more old.marks mark other h)
 
-pub byte_steps : (s : Setting) → AreFirst s → AnswersInBytes s → KeptBySteps s IsByteDrill
-byte_steps s first replies = record {
-  first = first;
+-- what each step on a link keeps
+pub byte_steps : (s : Setting) (link : ℕ) → AreInBytes Initiator (s.opened link) → AllByRecursion ResumedTyped (s.opened link).resumed → ((d : Drill) → IsTyped d.marks → ExecutedInBytes d.marks → AnswersInBytesAt s link d) →
+    KeptBySteps s link IsByteDrill
+byte_steps s link in_bytes again replies = record {
+  in_bytes = in_bytes;
+  again = again;
   quiet = λ old new adds keeps h. record { typed = keeps h.typed; executed = quiet_executed s old new adds h.executed };
-  executes = λ link call g d next is h.
+  executes = λ call g d next is h.
       (let mark = marks.Execute link call.xid g.moment call.payload g.place g.reply in
       record {
-        typed = marked mark d (replies link d h.typed.typed h.executed call g next is) h.typed;
+        typed = marked mark d (replies d h.typed.typed h.executed call g next is) h.typed;
         executed = executed_more d.marks mark (waiting_bytes s link d.marks call h.typed.typed next) h.executed;
       });
 }
 
-pub record StepsKeepBytes (s : Setting) : Type 0 where
-  pub first : AreFirst s
-  pub keeps : (link : ℕ) (step : DrainStep) (d : Drill) → IsByteDrill d → IsByteDrill (after_step s link step d)
+-- ===== all lines
 
-pub steps_keep_bytes : (s : Setting) → AreFirst s → AnswersInBytes s → StepsKeepBytes s
-steps_keep_bytes s first replies = record { first = first; keeps = by }
-  where
-    k : KeptBySteps s IsByteDrill
-    k = byte_steps s first replies
+typed_replied : (before : List Mark) (mark : Mark) → TypedMark before mark → RepliedMark before mark
+typed_replied before (marks.Submit l call form answer) h = tt
+typed_replied before (marks.Wrote l side bytes) h = tt
+typed_replied before (marks.Fed l side bytes) h = tt
+typed_replied before (marks.Execute l xid moment payload place reply) h = h
+typed_replied before (marks.Done l xid outcome) h = tt
+typed_replied before (marks.Lost l xid) h = tt
+typed_replied before (marks.Forget l xid) h = tt
+typed_replied before (marks.Revoke l xid bytes) h = tt
+typed_replied before (marks.Drop l) h = tt
+typed_replied before (marks.Told l what) h = tt
 
-    by : (link : ℕ) (step : DrainStep) (d : Drill) → IsByteDrill d → IsByteDrill (after_step s link step d)
-    by link AllUp d h = up_keeps s IsByteDrill k link (length (pipes_of link d).up) d h
-    by link Work d h = work_keeps s IsByteDrill k link d h
-    by link AllDown d h = down_keeps s IsByteDrill k link (length (pipes_of link d).down) d h
+pub byte_replied : (d : Drill) → IsByteDrill d → RepliedInBytes d.marks
+byte_replied d h = AtEachMark_each TypedMark RepliedMark [] d.marks typed_replied h.typed.typed
 
--- ===== a script
+-- of a script whose server replies in bytes
+abbrev pub BytesThen : Setting → Opening → ℕ → Drill → Type 0
+BytesThen s opening n d = Holds s opening n d × (n ≤ lines_max → IsByteDrill d)
 
--- after the first lines, however many
-pub script_bytes : (server : SerialServer) (script : ScriptLines) → IsScript script → IsUnnumbered script → AnswersInBytes (setting_of server script.opening) → (before after : List Line) → script.lines ≡ before ++ after → (mid : Drill) →
-    FirstMakeAll (setting_of server script.opening) script.opening.clients before (opened_drill server script.opening) mid → IsByteDrill mid
+pub bytes_kept : (s : Setting) (opening : Opening) (Raws : ℕ → Type 0) → AnswersInBytes s → IsKept s opening AnyRaw Raws (BytesThen s opening)
+bytes_kept s opening Raws replies =
+    let k = holds_kept s opening AnyRaw Raws in
+    record {
+      count = λ n d p. k.count n d p.0;
+      later = λ n d p. (k.later n d p.0, λ le. p.1 (omega (arith, le)));
+      credential = λ n c cred d can typed p. (
+        k.credential n c cred d can typed p.0,
+        λ le. (let h = p.1 le in record {
+          typed = record { typed = h.typed.typed; pipes = h.typed.pipes; creds = with_cred_at_lem d.creds (c - 1) cred h.typed.creds typed };
+          executed = h.executed;
+        }),
+      );
+      time = λ n seconds d p. (k.time n seconds d p.0, λ le. (let h = p.1 le in record { typed = record { typed = h.typed.typed; pipes = h.typed.pipes; creds = h.typed.creds }; executed = h.executed }));
+      action = λ n c link a d last acts may p. (
+        k.action n c link a d last acts may p.0,
+        λ le. (let most = counted_most a n in
+            let fits : n ≤ lines_max = omega (arith, le, most) in
+            let h = p.1 fits in
+            let t = setting_now s d in
+            let held = p.0.1 fits (byte_replied d h) in
+            let l = held.links link (held.frame.owned c link last).0 in
+            action_keeps_steps t link c opening.credits Raws IsByteDrill
+            (byte_steps t link (link_bytes opening n (t.opened link) link d.marks l) l.again (λ e typed executed. replies t.opened link e typed executed)) a d h.typed.creds may h),
+      );
+      begins = λ n c link d last acts numbered gone stays p. (
+        k.begins n c link d last acts numbered gone stays p.0,
+        λ le. (let fits : n ≤ lines_max = omega (arith, le) in
+            let h = p.1 fits in
+            let held = p.0.1 fits (byte_replied d h) in
+            let begun = begun_drill s c link d in
+            let u = setting_now s begun in
+            let next = next_link d in
+            let l = new_holds s opening n c link d le last numbered stays held in
+            let b = begins_so s opening n c link d le last numbered stays held in
+            let steps = byte_steps u next (link_bytes opening (suc n) (u.opened next) next (after_opening u next begun).marks l) l.again (λ e typed executed. replies u.opened next e typed executed) in
+            subst (λ (m : ℕ). IsByteDrill (after_opening u m begun)) (sym b.is_last)
+            (opening_keeps_steps u next IsByteDrill steps begun (record { typed = begun_typed s opening n c link d le last numbered stays held; executed = h.executed }))),
+      );
+    }
+
+openings_bytes : (server : SerialServer) (opening : Opening) → AnswersInBytes (setting_of server opening) → (links : List ℕ) (d : Drill) → IsByteDrill d → IsByteDrill (after_openings (setting_of server opening) links d)
+openings_bytes server opening replies [] d h = h
+openings_bytes server opening replies (link ∷ links) d h =
+    let s = setting_of server opening in
+    openings_bytes server opening replies links (after_opening s link d)
+    (opening_keeps_steps s link IsByteDrill (byte_steps s link tt tt (λ e typed executed. replies s.opened link e typed executed)) d h)
+
+pub first_bytes : (server : SerialServer) (script : ScriptLines) → IsDrillScript script → AnswersInBytes (setting_of server script.opening) → BytesThen (setting_of server script.opening) script.opening 0 (opened_drill server script.opening)
 unfolding opened_drill
-script_bytes server script is none replies before after cut mid made =
+first_bytes server script is replies = (
+  first_then server script is,
+  λ le. openings_bytes server script.opening replies (links_of script.opening.clients) (start (setting_of server script.opening) script.opening.clients)
+      (record { typed = start_typed (setting_of server script.opening) script.opening.clients; executed = tt }),
+)
+
+-- so all that a script makes is of its types
+pub script_bytes : (server : SerialServer) (script : ScriptLines) (run : List Mark) → IsDrillScript script → AnswersInBytes (setting_of server script.opening) → (follows : Follows server script run) → IsByteDrill follows.last
+script_bytes server script run is replies follows =
     let s = setting_of server script.opening in
-    let clients = script.opening.clients in
-    let k = byte_steps s (opened_firsts server script.opening none) replies in
-    lines_keep s IsByteDrill k clients before (opened_drill server script.opening) mid (all_front IsTypedLine before after (subst (AllByRecursion IsTypedLine) cut is.typed)) made
-    (openings_keep s IsByteDrill k (links_of clients) (start s clients) (record { typed = start_typed s clients; executed = tt }))
+    (lines_kept s script.opening AnyRaw AnyRaw (BytesThen s script.opening) (bytes_kept s script.opening AnyRaw replies) 0 (length script.lines) script.opening.clients script.lines (opened_drill server script.opening) follows.last
+    (lines_of script is) (all_act script.lines) (omega arith) follows.makes (first_bytes server script is replies)).1 is.few_lines

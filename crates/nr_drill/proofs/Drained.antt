@@ -1,14 +1,15 @@
 -- After a last drain nothing waits, and all calls have completed.
-use Rattle.std.specs.Prelude.{◌≡◌, ◌≢◌, ℕ, ◌+◌, ◌≤◌, Bool, true, false, ◌&&◌, is_none, List, [], ◌∷◌, ◌++◌, length, Option, None, Some}
-use Rattle.std.specs.List.{list_all, list_any, AllByRecursion}
-use Rattle.std.proofs.Common.{zero, suc, inl, inr, arith, refl, sym, ap, subst, ◌∙◌, append-nil, append_assoc}
-use Rattle.std.proofs.lemmas.List.{length-append}
+use Rattle.std.specs.Prelude.{◌-◌, ◌==◌, ◌&&◌, is_none, slice_index_or, if◌then◌else◌}
+use Rattle.std.specs.List.{list_all, AllByRecursion}
+use Rattle.std.proofs.Common.{◌≡◌, ◌≢◌, ℕ, zero, suc, ◌+◌, ◌≤◌, ◌<◌, arith, eqb, eqb-true, Bool, true, false, List, [], ◌∷◌, ◌++◌, length, Option, None, Some, refl, sym, ap, subst, ◌∙◌, append-nil, append_assoc, length-append}
+use Rattle.std.proofs.lemmas.Bool.{eq-eqb}
+use Rattle.std.proofs.lemmas.List.{get_or-set_other}
 use Rattle.nr_wire.specs.declared.hello.Side.TheVariants.{Initiator, Responder}
-use Rattle.nr_reduce.specs.declared.call.Call.{Call}
 use Rattle.nr_reduce.specs.declared.mark.Mark.{Mark}
 use Rattle.nr_reduce.specs.declared.mark.LinkParameters.{LinkParameters}
 use Rattle.nr_reduce.specs.History.{bytes_sent, bytes_received, is_dropped}
 use Rattle.nr_reduce.specs.Matched.{Matched}
+use Rattle.nr_reduce.specs.Reopening.{reopened}
 use Rattle.nr_reduce.specs.ServerState.{ReadyCall, ServerState}
 use Rattle.nr_reduce.specs.Served.{next_call, first_ready}
 use Rattle.nr_laws.specs.Completion.{NothingInTransit}
@@ -17,18 +18,28 @@ use Rattle.nr_reduce.specs.EndRules.{EndState, end_state_after}
 use Rattle.nr_reduce.specs.Server.{server_rules}
 use Rattle.nr_reduce.specs.Run.{server}
 use Rattle.nr_reduce.proofs.Steps.{server_one}
+use Rattle.nr_laws.proofs.Flows.{got_sent}
+use Rattle.nr_texts.specs.declared.opening.Opening.{Opening}
+use Rattle.nr_script.specs.Limits.{lines_max}
 use Rattle.nr_script.specs.declared.script.Line.{Line}
 use Rattle.nr_script.specs.declared.script.Line.TheVariants as lines
-use Rattle.nr_laws.proofs.Flows.{got_sent}
-use Rattle.nr_script.specs.Script.{ScriptLines, IsScript}
-use Rattle.nr_drill.specs.Lines.{acts_on, EndsWithDrain, IsClient, IsUnnumbered}
-use Rattle.nr_drill.specs.Drill.{link_of, SerialServer, Setting, Drill, links_of, pipes_of, cred_of, if_standing, waiting_call, after_round, after_submit, after_up, after_down, after_work, after_forget, after_revoke, after_drop, after_raw, after_grant}
-use Rattle.nr_drill.specs.Follows.{is_empty, is_still, Drains, Follows, parameters_of, setting_of, opened_drill}
-use Rattle.nr_drill.proofs.Followed.{Among, among_range, Extends, no_event, submit_adds, up_adds, down_adds, work_adds, forget_adds, revoke_adds, drop_adds, raw_adds, grant_adds}
-use Rattle.nr_drill.proofs.Carried.{neither_raw, true_not, other_than, IsSameHere, same_here, follows_made}
+use Rattle.nr_script.specs.Script.{ScriptLines}
+use Rattle.nr_drill.specs.Lines.{EndsWithDrain, IsDrillScript}
+use Rattle.nr_drill.specs.Drill.{link_of, SerialServer, Setting, Drill, IsLink, client_of, last_link, setting_now, pipes_of, with_cred, if_standing, waiting_call, after_moves, after_round, after_opening, after_leaving}
+use Rattle.nr_drill.specs.Follows.{is_empty, is_still, Drains, MakeAll, Follows, setting_of, last_setting, opened_drill}
+use Rattle.nr_drill.specs.InBytes.{RepliedInBytes}
+use Rattle.nr_drill.proofs.Followed.{Extends, KeepsLinks, no_event, extending_keeps, same_setting, moves_adds, opening_adds}
+use Rattle.nr_drill.proofs.Carried.{IsSameHere, same_here}
 use Rattle.nr_drill.proofs.NoneLost.{NoneLost, follows_lose_nothing}
-use Rattle.nr_drill.proofs.FirstLines.{NamesClient, all_name, both_true}
-use Rattle.nr_drill.specs.Unnumbered.{first_line, FirstMakes, FirstMakeAll}
+use Rattle.nr_drill.proofs.Actions.{Action, after_action, IsLastOf, IsKept, AnyRaw, NotOf, IsLineOf, then_keep, all_act, lines_apart, lines_of, line_kept, lines_kept}
+use Rattle.nr_drill.proofs.Links.{DrillHolds, action_extends}
+use Rattle.nr_drill.proofs.BegunLinks.{Holds, IsBegun, begun_drill, next_link, begins_so, holds_kept, counted_most, replied_before, first_then}
+use Rattle.nr_drill.proofs.BegunOrder.{InOrder, links_in_order}
+use Rattle.nr_drill.proofs.DrainedSteps.{IsCut, cut_at, front_of, back_of}
+
+both_true : (a b : Bool) → (a && b) ≡ true → (a ≡ true) × (b ≡ true)
+both_true true b e = (refl, e)
+both_true false b e = absurd cc
 
 none_left : (xs : List ℕ) → is_empty xs ≡ true → xs ≡ []
 none_left [] e = refl
@@ -38,14 +49,14 @@ none_there : (call : Option ReadyCall) → is_none call ≡ true → call ≡ No
 none_there None e = refl
 none_there (Some call) e = absurd cc
 
-each_still : (s : Setting) (d : Drill) (link : ℕ) (links : List ℕ) → Among link links → list_all (is_still s d) links ≡ true → is_still s d link ≡ true
-each_still s d link [] among e = absurd among
-each_still s d link (l ∷ links) (inl same) e = subst (λ (k : ℕ). is_still s d k ≡ true) same (both_true (is_still s d l) (list_all (is_still s d) links) e).0
-each_still s d link (l ∷ links) (inr later) e = each_still s d link links later (both_true (is_still s d l) (list_all (is_still s d) links) e).1
+pub drained_all : (s : Setting) (links : List ℕ) (rounds : ℕ) (old new : Drill) → Drains s links rounds old new → list_all (is_still s new) links ≡ true
+drained_all s links zero old new drains = subst (λ (d : Drill). list_all (is_still s d) links ≡ true) (sym drains.1) drains.0
+drained_all s links (suc rounds) old new drains = drained_all s links rounds (after_round s links old) new drains.1
 
-pub drained_still : (s : Setting) (link : ℕ) (links : List ℕ) (rounds : ℕ) (old new : Drill) → Among link links → Drains s links rounds old new → is_still s new link ≡ true
-drained_still s link links zero old new among drains = subst (λ (d : Drill). is_still s d link ≡ true) (sym drains.1) (each_still s old link links among drains.0)
-drained_still s link links (suc rounds) old new among drains = drained_still s link links rounds (after_round s links old) new among drains.1
+all_at : (p : ℕ → Bool) (xs : List ℕ) (i other : ℕ) → list_all p xs ≡ true → i < length xs → p (slice_index_or xs i other) ≡ true
+all_at p [] i other e lt = absurd (omega (arith, lt))
+all_at p (x ∷ xs) zero other e lt = (both_true (p x) (list_all p xs) e).0
+all_at p (x ∷ xs) (suc i) other e lt = all_at p xs i other (both_true (p x) (list_all p xs) e).1 (omega (arith, lt))
 
 no_more : (xs ys rest : List ℕ) → xs ++ rest ≡ ys → length ys ≤ length xs → xs ≡ ys
 no_more xs ys [] e le = sym (append-nil xs) ∙ e
@@ -102,80 +113,231 @@ left_elsewhere s link other old new one some ne x =
     let next : next_call o link new.marks ≡ next_call o link old.marks = ap (λ (run : List Mark). next_call o link run) x.marks.is ∙ same_next o link other old.marks x.marks.added ne x.marks.own in
     λ i. is_empty (pipes i).up && (is_empty (pipes i).down && is_none (if_standing (same.dropped i) (next i)))
 
--- by a line that doesn't act on it
-line_leaves : (s : Setting) (link : ℕ) (line : Line) (d : Drill) → 1 ≤ link → NamesClient line → acts_on link line ≡ false → IsLeft s link d (first_line s line d)
-unfolding is_still
-line_leaves s link (lines.Cred client cred) d one some e = refl
-line_leaves s link (lines.Call client form prog vers proc args) d one some e =
-    let call : Call = record { prog = prog; vers = vers; proc = proc; cred = cred_of client d; args = args } in
-    left_elsewhere s link client d (after_submit s client call form d) one some (other_than client link e) (submit_adds s client call form d)
-line_leaves s link (lines.Up client most) d one some e = left_elsewhere s link client d (after_up s client most d) one some (other_than client link e) (up_adds s client most d)
-line_leaves s link (lines.Down client most) d one some e = left_elsewhere s link client d (after_down s client most d) one some (other_than client link e) (down_adds s client most d)
-line_leaves s link (lines.Work client) d one some e = left_elsewhere s link client d (after_work s client d) one some (other_than client link e) (work_adds s client d)
-line_leaves s link (lines.Tick seconds) d one some e = refl
-line_leaves s link (lines.Forget client number) d one some e = left_elsewhere s link client d (after_forget s client number d) one some (other_than client link e) (forget_adds s client number d)
-line_leaves s link (lines.Revoke client number) d one some e = left_elsewhere s link client d (after_revoke s client number d) one some (other_than client link e) (revoke_adds s client number d)
-line_leaves s link (lines.Drop client) d one some e = left_elsewhere s link client d (after_drop client d) one some (other_than client link e) (drop_adds client d)
-line_leaves s link (lines.Rejoin client) d one some e = refl
-line_leaves s link (lines.Raw client side bytes) d one some e =
-    let dropped = is_dropped client d.marks in
-    left_elsewhere s link client d (after_raw client side bytes dropped d) one some (other_than client link e) (raw_adds client side bytes dropped d)
-line_leaves s link (lines.Grant client credits) d one some e = left_elsewhere s link client d (after_grant client credits d) one some (other_than client link e) (grant_adds client credits d)
-line_leaves s link lines.Drain d one some e = absurd (true_not e)
+-- with the same marks and pipes
+still_by : (s t : Setting) (link : ℕ) (old new : Drill) → t.opened link ≡ s.opened link → new.marks ≡ old.marks → pipes_of link new ≡ pipes_of link old → is_still t new link ≡ is_still s old link
+unfolding is_still waiting_call
+still_by s t link old new o m p = λ i. is_empty (p i).up && (is_empty (p i).down && is_none (if_standing (is_dropped link (m i)) (next_call (o i) link (m i))))
 
-made_leaves : (s : Setting) (clients link : ℕ) (line : Line) (old new : Drill) → 1 ≤ link → NamesClient line → acts_on link line ≡ false → FirstMakes s clients line old new → IsLeft s link old new
-made_leaves s clients link (lines.Cred client cred) old new one some n e = subst (IsLeft s link old) (sym e) (line_leaves s link (lines.Cred client cred) old one some n)
-made_leaves s clients link (lines.Call client form prog vers proc args) old new one some n e = subst (IsLeft s link old) (sym e) (line_leaves s link (lines.Call client form prog vers proc args) old one some n)
-made_leaves s clients link (lines.Up client most) old new one some n e = subst (IsLeft s link old) (sym e) (line_leaves s link (lines.Up client most) old one some n)
-made_leaves s clients link (lines.Down client most) old new one some n e = subst (IsLeft s link old) (sym e) (line_leaves s link (lines.Down client most) old one some n)
-made_leaves s clients link (lines.Work client) old new one some n e = subst (IsLeft s link old) (sym e) (line_leaves s link (lines.Work client) old one some n)
-made_leaves s clients link (lines.Tick seconds) old new one some n e = subst (IsLeft s link old) (sym e) (line_leaves s link (lines.Tick seconds) old one some n)
-made_leaves s clients link (lines.Forget client number) old new one some n e = subst (IsLeft s link old) (sym e) (line_leaves s link (lines.Forget client number) old one some n)
-made_leaves s clients link (lines.Revoke client number) old new one some n e = subst (IsLeft s link old) (sym e) (line_leaves s link (lines.Revoke client number) old one some n)
-made_leaves s clients link (lines.Drop client) old new one some n e = subst (IsLeft s link old) (sym e) (line_leaves s link (lines.Drop client) old one some n)
-made_leaves s clients link (lines.Rejoin client) old new one some n e = subst (IsLeft s link old) (sym e) (line_leaves s link (lines.Rejoin client) old one some n)
-made_leaves s clients link (lines.Raw client side bytes) old new one some n e = subst (IsLeft s link old) (sym e) (line_leaves s link (lines.Raw client side bytes) old one some n)
-made_leaves s clients link (lines.Grant client credits) old new one some n e = subst (IsLeft s link old) (sym e) (line_leaves s link (lines.Grant client credits) old one some n)
-made_leaves s clients link lines.Drain old new one some n e = absurd (true_not n)
+-- ===== a client that doesn't act any more
 
-lines_leave : (s : Setting) (clients link : ℕ) (all : List Line) (old new : Drill) → 1 ≤ link → AllByRecursion NamesClient all → list_any (acts_on link) all ≡ false → FirstMakeAll s clients all old new → IsLeft s link old new
-lines_leave s clients link [] old new one some n e = subst (IsLeft s link old) (sym e) refl
-lines_leave s clients link (line ∷ others) old new one some n e =
-    let parts = neither_raw (acts_on link line) (list_any (acts_on link) others) n in
-    lines_leave s clients link others e.0 new one some.1 parts.1 e.2 ∙ made_leaves s clients link line old e.0 one some.0 parts.0 e.1
+-- nothing moves on its last link
+record StaysStill (s : Setting) (own link : ℕ) (d : Drill) : Type 0 where
+  is_last : last_link own d ≡ link
+  within : IsLink d link
+  owner : client_of (setting_now s d) link ≡ own
+  still : is_still (setting_now s d) d link ≡ true
+
+abbrev StillThen : Setting → Opening → (own link n : ℕ) → Drill → Type 0
+StillThen s opening own link n d = Holds s opening n d × (n ≤ lines_max → RepliedInBytes d.marks → StaysStill s own link d)
+
+still_acts : (s : Setting) (opening : Opening) (own link n c acted : ℕ) (a : Action) (d : Drill) → IsLastOf opening.clients c acted d → c ≢ own → DrillHolds s opening n d → StaysStill s own link d → StaysStill s own link (after_action (setting_now s d) acted a d)
+still_acts s opening own link n c acted a d last apart h q = record {
+  is_last = ap (λ (ls : List ℕ). slice_index_or ls (own - 1) own) x.last_links ∙ q.is_last;
+  within = (q.within.0, (let few = q.within.1 in let more = ap (λ (os : List LinkParameters). length os) x.opened in omega (arith, few, more)));
+  owner = ap (λ (v : Setting). client_of v link) same ∙ q.owner;
+  still = ap (λ (v : Setting). is_still v new link) same ∙ left_elsewhere t link acted d new q.within.0 here.0.0 ne x ∙ q.still;
+}
+  where
+    t : Setting
+    t = setting_now s d
+
+    new : Drill
+    new = after_action t acted a d
+
+    x : Extends acted d new
+    x = action_extends t acted a d
+
+    same : setting_now s new ≡ t
+    same = same_setting s d new (record { opened = x.opened; last_links = x.last_links })
+
+    here : IsLink d acted × (client_of t acted ≡ c)
+    here = h.frame.owned c acted last
+
+    ne : acted ≢ link
+    ne at = apart (sym here.1 ∙ ap (client_of t) at ∙ q.owner)
+
+still_begins : (s : Setting) (opening : Opening) (own link n c old : ℕ) (d : Drill) → IsLastOf opening.clients c old d → c ≢ own → 1 ≤ own → IsBegun s c old d → DrillHolds s opening n d → StaysStill s own link d → StaysStill s own link (after_leaving s c old d)
+still_begins s opening own link n c old d last apart low b h q = subst (λ (l : ℕ). StaysStill s own link (after_opening u l begun)) (sym b.is_last) (record {
+  is_last = ap (λ (ls : List ℕ). slice_index_or ls (own - 1) own) x.last_links
+      ∙ get_or-set_other d.last_links (c - 1) (own - 1) next own (λ same. apart (let some = last.low in omega (arith, same, low, some))) ∙ q.is_last;
+  within = (
+    q.within.0,
+    (let few = q.within.1 in let more = ap (λ (os : List LinkParameters). length os) x.opened in
+        let one = length-append d.opened (reopened (t.opened old) old d.marks ∷ []) in omega (arith, few, more, one)),
+  );
+  owner = ap (λ (v : Setting). client_of v link) same ∙ ap (λ (o : LinkParameters). if o.client.number == 0 then link else o.client.number) (b.old_link link q.within) ∙ q.owner;
+  still = ap (λ (v : Setting). is_still v new link) same ∙ left_elsewhere u link next begun new q.within.0 b.is_link.0 ne x ∙ still_by t u link d begun (b.old_link link q.within) refl (b.old_pipes link q.within) ∙ q.still;
+})
+  where
+    t : Setting
+    t = setting_now s d
+
+    begun : Drill
+    begun = begun_drill s c old d
+
+    u : Setting
+    u = setting_now s begun
+
+    next : ℕ
+    next = next_link d
+
+    new : Drill
+    new = after_opening u next begun
+
+    x : Extends next begun new
+    x = opening_adds u next begun
+
+    same : setting_now s new ≡ u
+    same = same_setting s begun new (record { opened = x.opened; last_links = x.last_links })
+
+    ne : next ≢ link
+    ne at = (let few = q.within.1 in let pipes = h.frame.pipes in omega (arith, at, few, pipes))
+
+still_kept : (s : Setting) (opening : Opening) (own link : ℕ) → 1 ≤ own → IsKept s opening (NotOf own) AnyRaw (StillThen s opening own link)
+still_kept s opening own link low =
+    let k = holds_kept s opening (NotOf own) AnyRaw in
+    record {
+      count = λ n d p. k.count n d p.0;
+      later = λ n d p. (k.later n d p.0, λ le replied. p.1 (omega (arith, le)) replied);
+      credential = λ n c cred d can typed p. (
+        k.credential n c cred d can typed p.0,
+        λ le replied. (let q = p.1 le replied in record {
+          is_last = q.is_last;
+          within = q.within;
+          owner = q.owner;
+          still = still_by (setting_now s d) (setting_now s d) link d (with_cred c cred d) refl refl refl ∙ q.still;
+        }),
+      );
+      time = λ n seconds d p. (
+        k.time n seconds d p.0,
+        λ le replied. (let q = p.1 le replied in record {
+          is_last = q.is_last;
+          within = q.within;
+          owner = q.owner;
+          still = still_by (setting_now s d) (setting_now s d) link d (record d { seconds = d.seconds + seconds }) refl refl refl ∙ q.still;
+        }),
+      );
+      action = λ n c acted a d last acts may p. (
+        k.action n c acted a d last acts may p.0,
+        λ le replied. (let most = counted_most a n in
+            let fits : n ≤ lines_max = omega (arith, le, most) in
+            let before = replied_before acted d (after_action (setting_now s d) acted a d) (action_extends (setting_now s d) acted a d) replied in
+            still_acts s opening own link n c acted a d last acts (p.0.1 fits before) (p.1 fits before)),
+      );
+      begins = λ n c old d last acts numbered gone stays p. (
+        k.begins n c old d last acts numbered gone stays p.0,
+        λ le replied. (let fits : n ≤ lines_max = omega (arith, le) in
+            let begun = begun_drill s c old d in
+            let before = replied_before (last_link c begun) begun (after_leaving s c old d) (opening_adds (setting_now s begun) (last_link c begun) begun) replied in
+            let held = p.0.1 fits before in
+            still_begins s opening own link n c old d last acts low (begins_so s opening n c old d le last numbered stays held) held (p.1 fits before)),
+      );
+    }
+
+differs_at : false ≡ true → ⊥
+differs_at e = absurd cc
+
+-- a drain leaves what the links were opened with, and which are the last
+round_keeps : (s : Setting) (links : List ℕ) (d : Drill) → KeepsLinks d (after_round s links d)
+round_keeps s [] d = record { opened = refl; last_links = refl }
+round_keeps s (l ∷ links) d = then_keep d (after_moves s l d) (after_round s links (after_moves s l d)) (extending_keeps l d (after_moves s l d) (moves_adds s l d)) (round_keeps s links (after_moves s l d))
+
+drains_keep : (s : Setting) (links : List ℕ) (rounds : ℕ) (old new : Drill) → Drains s links rounds old new → KeepsLinks old new
+drains_keep s links zero old new e = subst (λ (d : Drill). KeepsLinks old d) (sym e.1) (record { opened = refl; last_links = refl })
+drains_keep s links (suc rounds) old new e = then_keep old (after_round s links old) new (round_keeps s links old) (drains_keep s links rounds (after_round s links old) new e.1)
 
 -- ===== a script that ends with a drain, for a link
 
-pub record IsCut (s : Setting) (clients : ℕ) (before after : List Line) (old new : Drill) : Type 0 where
-  pub first : Drill
-  pub drained : Drill
-  pub rounds : ℕ
-  pub made : FirstMakeAll s clients before old first
-  pub drains : Drains s (links_of clients) rounds first drained
-  pub later : FirstMakeAll s clients after drained new
-
-pub cut_at : (s : Setting) (clients : ℕ) (before after : List Line) (old new : Drill) → FirstMakeAll s clients (before ++ lines.Drain ∷ after) old new → IsCut s clients before after old new
-cut_at s clients [] after old new e = record { first = old; drained = e.0; rounds = e.1.0; made = refl; drains = e.1.1; later = e.2 }
-cut_at s clients (line ∷ before) after old new e =
-    let r = cut_at s clients before after e.0 new e.2 in
-    record { first = r.first; drained = r.drained; rounds = r.rounds; made = (e.0, e.1, r.made); drains = r.drains; later = r.later }
-
-pub all_last : {X : Type 0} (P : X → Type 0) (xs ys : List X) → AllByRecursion P (xs ++ ys) → AllByRecursion P ys
-all_last P [] ys h = h
-all_last P (x ∷ xs) ys h = all_last P xs ys h.1
-
--- After a drain that no later line of a matched link follows nothing waits on it, if it wasn't dropped.
-pub follows_waits : (server : SerialServer) (script : ScriptLines) (run : List Mark) → IsScript script → IsUnnumbered script → Follows server script run → (link : ℕ) → IsClient script link → Matched link run →
-    is_dropped link run ≡ false → EndsWithDrain script link → NothingInTransit (parameters_of script.opening link) link run
-follows_waits server script run is none follows link within matched standing ends =
-    let opening = script.opening in
-    let s = setting_of server opening in
-    let clients = opening.clients in
-    let parts = cut_at s clients ends.before ends.after (opened_drill server opening) follows.last (subst (λ (all : List Line). FirstMakeAll s clients all (opened_drill server opening) follows.last) ends.is_cut (follows_made server script run is none follows)) in
-    let names : AllByRecursion NamesClient (ends.before ++ lines.Drain ∷ ends.after) = subst (AllByRecursion NamesClient) ends.is_cut (all_name opening [] script.lines is.follow_on) in
-    let later : AllByRecursion NamesClient ends.after = (all_last NamesClient ends.before (lines.Drain ∷ ends.after) names).1 in
-    let drained = drained_still s link (links_of clients) parts.rounds parts.first parts.drained (among_range link 1 clients within.0 (let b = within.1 in omega (arith, b))) parts.drains in
-    let still : is_still s follows.last link ≡ true = lines_leave s clients link ends.after parts.drained follows.last within.0 later ends.none_after parts.later ∙ drained in
+-- After a drain that no later line of the client of a matched link follows nothing waits on it, if it wasn't dropped.
+pub follows_waits : (server : SerialServer) (script : ScriptLines) (run : List Mark) → IsDrillScript script → RepliedInBytes run → (follows : Follows server script run) → (link : ℕ) → IsLink follows.last link → Matched link run →
+    is_dropped link run ≡ false → EndsWithDrain script (client_of (last_setting follows) link) → NothingInTransit ((last_setting follows).opened link) link run
+follows_waits server script run is replied follows link within matched standing ends =
     let here : is_dropped link follows.last.marks ≡ false = ap (λ (r : List Mark). is_dropped link r) (sym follows.marks_are) ∙ standing in
-    subst (NothingInTransit (parameters_of opening link) link) (sym follows.marks_are)
-    (nothing_waits s link follows.last (subst (Matched link) follows.marks_are matched) (follows_lose_nothing server script run is none follows link within) here still)
+    subst (NothingInTransit (t.opened link) link) (sym follows.marks_are)
+    (nothing_waits t link follows.last (subst (Matched link) follows.marks_are matched) (follows_lose_nothing server script run is replied follows link within) here
+    (subst (λ (l : ℕ). is_still t follows.last l ≡ true) (sym (last_is ∙ at_end.is_last)) at_end.still))
+  where
+    t : Setting
+    t = last_setting follows
+
+    s : Setting
+    s = setting_of server script.opening
+
+    clients : ℕ
+    clients = script.opening.clients
+
+    own : ℕ
+    own = client_of t link
+
+    marks_replied : RepliedInBytes follows.last.marks
+    marks_replied = subst RepliedInBytes follows.marks_are replied
+
+    order : InOrder t clients follows.last
+    order = links_in_order server script is run replied follows
+
+    last_is : link ≡ last_link own follows.last
+    last_is = by (eqb link (last_link own follows.last)) refl
+      where
+        by : (b : Bool) → eqb link (last_link own follows.last) ≡ b → link ≡ last_link own follows.last
+        by true e = eqb-true link (last_link own follows.last) e
+        by false e = absurd (let gone = order.gone link within (λ same. differs_at (sym e ∙ eq-eqb link (last_link own follows.last) same)) in differs_at (sym standing ∙ ap (λ (r : List Mark). is_dropped link r) follows.marks_are ∙ gone))
+
+    cut : IsCut s clients ends.before ends.after (opened_drill server script.opening) follows.last
+    cut = cut_at s clients ends.before ends.after (opened_drill server script.opening) follows.last
+        (subst (λ (ls : List Line). MakeAll s clients ls (opened_drill server script.opening) follows.last) ends.is_cut follows.makes)
+
+    parts : AllByRecursion (IsLineOf script.opening AnyRaw) (ends.before ++ lines.Drain ∷ ends.after)
+    parts = subst (AllByRecursion (IsLineOf script.opening AnyRaw)) ends.is_cut (lines_of script is)
+
+    count : length ends.before + 1 + length ends.after ≤ lines_max
+    count =
+        let most = is.few_lines in
+        let all = ap (λ (ls : List Line). length ls) ends.is_cut in
+        let sum = length-append ends.before (lines.Drain ∷ ends.after) in
+        omega (arith, most, all, sum)
+
+    at_first : Holds s script.opening (length ends.before) cut.first
+    at_first =
+        lines_kept s script.opening AnyRaw AnyRaw (Holds s script.opening) (holds_kept s script.opening AnyRaw AnyRaw) 0 (length ends.before) clients ends.before (opened_drill server script.opening) cut.first
+        (front_of (IsLineOf script.opening AnyRaw) ends.before (lines.Drain ∷ ends.after) parts) (all_act ends.before) (omega arith) cut.made (first_then server script is)
+
+    at_drained : Holds s script.opening (suc (length ends.before)) cut.drained
+    at_drained =
+        line_kept s script.opening AnyRaw AnyRaw (Holds s script.opening) (holds_kept s script.opening AnyRaw AnyRaw) (length ends.before) clients lines.Drain cut.first cut.drained tt (λ c. tt) (cut.rounds, cut.drains) at_first
+
+    -- the client's last link, from the drain on
+    m : ℕ
+    m = last_link own cut.drained
+
+    keeps : KeepsLinks cut.first cut.drained
+    keeps = drains_keep (setting_now s cut.first) cut.first.last_links cut.rounds cut.first cut.drained cut.drains
+
+    low : 1 ≤ own
+    low = (order.owners link within).0
+
+    high : own ≤ clients
+    high = (order.owners link within).1
+
+    -- nothing moves on it once the drain is over
+    drained_so : suc (length ends.before) ≤ lines_max → RepliedInBytes cut.drained.marks → StaysStill s own m cut.drained
+    drained_so le some =
+        let h = at_drained.1 le some in
+        let there = h.frame.owned own m (record { low = low; high = high; is = refl }) in
+        let all = drained_all (setting_now s cut.first) cut.first.last_links cut.rounds cut.first cut.drained cut.drains in
+        let count = at_first.0 in
+        let same = same_setting s cut.first cut.drained keeps in
+        record {
+          is_last = refl;
+          within = there.0;
+          owner = there.1;
+          still = ap (λ (v : Setting). is_still v cut.drained m) same ∙ ap (λ (ls : List ℕ). is_still (setting_now s cut.first) cut.drained (slice_index_or ls (own - 1) own)) keeps.last_links
+              ∙ all_at (is_still (setting_now s cut.first) cut.drained) cut.first.last_links (own - 1) own all (omega (arith, count, low, high));
+        }
+
+    k : IsKept s script.opening (NotOf own) AnyRaw (StillThen s script.opening own m)
+    k = still_kept s script.opening own m low
+
+    at_end : StaysStill s own m follows.last
+    at_end =
+        (lines_kept s script.opening (NotOf own) AnyRaw (StillThen s script.opening own m) k (suc (length ends.before)) (length ends.before + 1 + length ends.after) clients ends.after cut.drained follows.last
+        (back_of (IsLineOf script.opening AnyRaw) ends.before (lines.Drain ∷ ends.after) parts).1 (lines_apart own ends.after ends.none_after) (omega arith) cut.later (at_drained, λ le some. drained_so le some)).1 count marks_replied

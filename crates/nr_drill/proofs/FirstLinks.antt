@@ -1,5 +1,5 @@
 -- Links that were not reopened, of clients without numbers: nothing is sent again on them, and each is the only link of its client.
-use Rattle.std.proofs.Common.{◌≡◌, ℕ, ◌+◌, ◌-◌, zero, suc, Bool, false, List, ◌++◌, refl, sym, ap, ◌∙◌, append-nil, length}
+use Rattle.std.proofs.Common.{◌≡◌, ℕ, ◌+◌, ◌-◌, zero, suc, Bool, false, List, ◌∷◌, ◌++◌, refl, sym, ap, ◌∙◌, append-nil, length}
 use Rattle.std.specs.Prelude.{◌==◌, if◌then◌else◌, map, slice_index_or}
 use Rattle.std.specs.List.{range_with_len}
 use Rattle.nr_reduce.specs.declared.mark.Mark.{Mark}
@@ -57,11 +57,12 @@ same_parameters opening l link none = ap (parameters_by l) none ∙ sym (ap (par
 pub now_is : (server : SerialServer) (opening : Opening) (clients : ℕ) (d : Drill) → opening.numbered ≡ false → d.opened ≡ (start (setting_of server opening) clients).opened →
     setting_now (setting_of server opening) d ≡ setting_of server opening
 now_is server opening clients d none is =
-    ap (λ (all : List LinkParameters). record s { opened = λ link. slice_index_or all (link - 1) (s.opened link) }) is
+    ap (λ (all : List LinkParameters). record s { opened = λ link. slice_index_or (s.opened 0 ∷ all) link (s.opened link) }) is
     ∙ (λ i. record s { opened = λ link. same link i })
   where
     s : Setting
     s = setting_of server opening
 
-    same : (link : ℕ) → slice_index_or (map s.opened (range_with_len 1 clients)) (link - 1) (s.opened link) ≡ s.opened link
-    same link = any_range (λ (o : LinkParameters). o ≡ s.opened link) s.opened 1 clients (link - 1) link (λ l. same_parameters opening l link none)
+    same : (link : ℕ) → slice_index_or (s.opened 0 ∷ map s.opened (range_with_len 1 clients)) link (s.opened link) ≡ s.opened link
+    same zero = refl
+    same (suc link) = any_range (λ (o : LinkParameters). o ≡ s.opened (suc link)) s.opened 1 clients link (suc link) (λ l. same_parameters opening l (suc link) none)

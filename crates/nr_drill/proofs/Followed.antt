@@ -1,7 +1,7 @@
--- A run that follows a script keeps the laws of each of its links.
+-- What each function of a drill adds are marks of its link. So it leaves the laws of other links, and on its own link it keeps them.
 use Rattle.std.specs.Prelude.{slice_get, ◌-◌, ◌&&◌, ◌||◌, map, slice_index_or, slice_set, replicate}
-use Rattle.std.specs.List.{AllByRecursion, range_with_len}
-use Rattle.std.proofs.Common.{◌≡◌, ◌≢◌, ℕ, ◌+◌, ◌≤◌, ◌<◌, arith, zero, suc, Bool, true, false, eqb, leb, List, [], ◌∷◌, ◌++◌, length, take, drop, Option, None, Some, ◌⊎◌, inl, inr, refl, sym, ap, subst, ◌∙◌, append_assoc, append-nil, eqb-true}
+use Rattle.std.specs.List.{AllByRecursion}
+use Rattle.std.proofs.Common.{◌≡◌, ◌≢◌, ℕ, ◌+◌, arith, zero, suc, Bool, true, false, eqb, List, [], ◌∷◌, ◌++◌, length, take, drop, Option, None, Some, refl, sym, ap, subst, ◌∙◌, append_assoc, append-nil, eqb-true}
 use Rattle.nr_wire.specs.declared.hello.Side.{Side}
 use Rattle.nr_wire.specs.declared.hello.Side.TheVariants.{Initiator, Responder}
 use Rattle.nr_reduce.specs.declared.call.Call.{Call}
@@ -12,11 +12,11 @@ use Rattle.nr_reduce.specs.declared.mark.Mark.TheVariants as marks
 use Rattle.nr_reduce.specs.declared.mark.Told.TheVariants.{Granted}
 use Rattle.nr_reduce.specs.declared.mark.Told.TheVariants as told
 use Rattle.nr_reduce.specs.declared.mark.LinkParameters.{LinkParameters}
-use Rattle.std.proofs.lemmas.Bool.{eq-eqb, leb-true}
+use Rattle.std.proofs.lemmas.Bool.{eq-eqb}
 use Rattle.std.proofs.lemmas.List.{get_or-set_other, length-set}
-use Rattle.nr_reduce.specs.History.{CompletedCall, bytes_sent, written_at, same_side, is_dropped}
-use Rattle.nr_reduce.specs.Events.{RunEvent, events_at}
-use Rattle.nr_reduce.specs.EndRules.{output_for_all}
+use Rattle.nr_reduce.specs.History.{CompletedCall, bytes_sent, written_at, same_side}
+use Rattle.nr_reduce.specs.Events.{RunEvent, events_at, events}
+use Rattle.nr_reduce.specs.EndRules.{end_state_after, output_for_all}
 use Rattle.nr_reduce.specs.Client.{client_rules}
 use Rattle.nr_reduce.specs.Server.{server_rules}
 use Rattle.nr_reduce.specs.ServerState.{ReadyCall}
@@ -24,28 +24,23 @@ use Rattle.nr_reduce.specs.Run.{client, server, output_due}
 use Rattle.nr_rpc.specs.declared.cred.Cred.{Cred}
 use Rattle.nr_rpc.specs.declared.cred.Cred.TheVariants as creds
 use Rattle.nr_rpc.specs.Credential.{CanWriteCred}
-use Rattle.nr_reduce.specs.Opening.{IsOpened, IsFirstLink}
-use Rattle.nr_reduce.specs.Asked.{Asked, AskedMark, IsAll, revoked_bytes}
+use Rattle.nr_reduce.specs.Opening.{IsOpened}
+use Rattle.nr_reduce.specs.Asked.{Asked, AskedMark, IsAll, ResentMark, revoked_bytes}
 use Rattle.nr_reduce.specs.OutcomesDue.{outcomes_due}
 use Rattle.nr_reduce.specs.NumberedJournal.{Standing}
 use Rattle.nr_reduce.specs.NumberedJournal.Standing.{Old, Kept, New}
 use Rattle.nr_reduce.specs.ClientState.{WaitingCall}
-use Rattle.nr_reduce.proofs.Unresumed.{none_resent, resent_marks}
+use Rattle.nr_reduce.proofs.Steps.{client_one}
 use Rattle.nr_reduce.specs.SubmitAnswer.{submit_answer_after, calls_to_resend}
 use Rattle.nr_reduce.specs.Served.{Served, ServedMark, ToldInRange, last_frame_at}
 use Rattle.nr_laws.specs.Grant.{AcceptedMark, AcceptsByRule}
-use Rattle.nr_texts.specs.declared.opening.Opening.{Opening}
-use Rattle.nr_script.specs.declared.script.Line.{Line}
-use Rattle.nr_script.specs.declared.script.Line.TheVariants as lines
-use Rattle.nr_script.specs.Script.{ScriptLines, HasWritableCred, IsScript, FollowOn, is_client, credits_in_range, may_follow}
+use Rattle.nr_script.specs.Script.{ScriptLines}
 use Rattle.nr_reduce.specs.Concerns.{concerns}
 use Rattle.nr_reduce.proofs.Unconcerned.{not_judged, none_written, no_events, none_asked, none_served}
-use Rattle.nr_drill.specs.Follows.{after_line, Drains, Makes, MakeAll, Follows, parameters_of, setting_of, opened_drill}
-use Rattle.nr_drill.specs.Drill.{link_of, Setting, Drill, Pipes, GivenReply, client_of, last_link, setting_now, standing_of, reply_given, resend_mark, after_resends, unwritten, after_output, after_all_output, settled, pipes_of, with_mark, after_submit, after_feeding, after_feeding_up, after_up, waiting_call, after_answer, after_call, after_execution, after_work, after_calls, after_drop, after_raw, after_feeding_down, after_handing, after_done, after_dones, after_outcomes, after_down, answer_of_line, open_xid, after_giving_up, after_forget, after_taking_back, after_revoke, after_all_up, after_all_work, after_all_down, after_moves, after_round, after_opening, after_openings, SerialServer, with_pipes, appended, empty_pipes, start, links_of, cred_of, after_grant}
-use Rattle.nr_drill.proofs.Lawful.{IsLawful, IsWritten, IsDueOf, Keeps, lawful_mark, left_is, due_more, more_due, due_of, lawful_settled, lawful_drop, lawful_forget, lawful_submit, lawful_after_up, lawful_after_down, lawful_work, lawful_revoke, lawful_moves, lawful_grant, quiet_grant}
-use Rattle.nr_drill.proofs.FirstLinks.{opened_firsts, now_is}
-use Rattle.nr_drill.specs.Lines.{IsUnnumbered}
-use Rattle.nr_drill.specs.Unnumbered.{AreFirst}
+use Rattle.nr_drill.specs.Lines.{IsDrillScript}
+use Rattle.nr_drill.specs.Follows.{parameters_of}
+use Rattle.nr_drill.specs.Drill.{link_of, Setting, Drill, Pipes, GivenReply, client_of, setting_now, standing_of, reply_given, resend_mark, after_resends, unwritten, after_output, after_all_output, settled, pipes_of, with_mark, after_submit, after_feeding, after_feeding_up, after_up, waiting_call, after_answer, after_call, after_execution, after_work, after_calls, after_drop, after_raw, after_feeding_down, after_handing, after_done, after_dones, after_outcomes, after_down, answer_of_line, open_xid, after_giving_up, after_forget, after_taking_back, after_revoke, after_all_up, after_all_work, after_all_down, after_moves, after_opening, with_pipes, appended, empty_pipes, after_grant}
+use Rattle.nr_drill.proofs.Lawful.{IsLawful, IsWritten, IsDueOf, Keeps, NoneAgain, OpenIsAwaited, again_mark, other_side_lem, lawful_mark, left_is, due_more, more_due, due_of, lawful_settled, lawful_drop, lawful_forget, lawful_after_up, lawful_after_down, lawful_grant, quiet_grant}
 
 -- ===== marks of other links
 
@@ -96,6 +91,30 @@ accepted_elsewhere o link run (marks.Revoke l xid bytes) ne = tt
 accepted_elsewhere o link run (marks.Drop l) ne = tt
 accepted_elsewhere o link run (marks.Told l what) ne = tt
 
+pub resent_elsewhere : (o : LinkParameters) (link : ℕ) (run : List Mark) (mark : Mark) → link_of mark ≢ link → ResentMark o link run mark
+resent_elsewhere o link run (marks.Submit l call form (submissions.Accepted xid)) ne = tt
+resent_elsewhere o link run (marks.Submit l call form (submissions.Refused why)) ne = λ same. absurd (ne same)
+resent_elsewhere o link run (marks.Submit l call form submissions.Dropped) ne = tt
+resent_elsewhere o link run (marks.Wrote l Initiator bytes) ne = λ same. absurd (ne same)
+resent_elsewhere o link run (marks.Wrote l Responder bytes) ne = tt
+resent_elsewhere o link run (marks.Fed l Initiator bytes) ne = λ same. absurd (ne same)
+resent_elsewhere o link run (marks.Fed l Responder bytes) ne = tt
+resent_elsewhere o link run (marks.Execute l xid moment payload place reply) ne = tt
+resent_elsewhere o link run (marks.Done l xid outcome) ne = λ same. absurd (ne same)
+resent_elsewhere o link run (marks.Lost l xid) ne = tt
+resent_elsewhere o link run (marks.Forget l xid) ne = λ same. absurd (ne same)
+resent_elsewhere o link run (marks.Revoke l xid bytes) ne = λ same. absurd (ne same)
+resent_elsewhere o link run (marks.Drop l) ne = tt
+resent_elsewhere o link run (marks.Told l what) ne = tt
+
+-- the client stays as it is
+pub client_elsewhere : (o : LinkParameters) (link other : ℕ) (old added : List Mark) → other ≢ link → AllByRecursion (λ (mark : Mark). link_of mark ≡ other) added → client o link (old ++ added) ≡ client o link old
+client_elsewhere o link other old [] ne own = ap (λ (run : List Mark). client o link run) (append-nil old)
+client_elsewhere o link other old (mark ∷ added) ne own =
+    let from : link_of mark ≢ link = (λ same. ne (sym own.0 ∙ same)) in
+    ap (λ (run : List Mark). client o link run) (sym (append_assoc old (mark ∷ []) added)) ∙ client_elsewhere o link other (old ++ mark ∷ []) added ne own.1
+    ∙ client_one o link old mark ∙ ap (λ (es : List RunEvent). end_state_after (client_rules o) (client o link old) es) (no_event link Initiator old mark from)
+
 -- nothing more is due, and what was left to write is left
 pub no_more : (o : LinkParameters) (link : ℕ) (side : Side) (run : List Mark) (mark : Mark) → link_of mark ≢ link → more_due o link side run mark ≡ []
 no_more o link Initiator run mark ne = ap (λ (es : List RunEvent). output_for_all (client_rules o) (client o link run) es) (no_event link Initiator run mark ne)
@@ -116,16 +135,17 @@ pub record Adds (link : ℕ) (old new : List Mark) : Type 0 where
 pub record IsSame (o : LinkParameters) (link : ℕ) (old new : List Mark) : Type 0 where
   pub lawful : IsLawful o link old → IsLawful o link new
   pub written : IsLawful o link old → IsWritten o link old → IsWritten o link new
+  pub same_client : client o link new ≡ client o link old
 
 pub same_by : (o : LinkParameters) (link other : ℕ) (old added : List Mark) → other ≢ link → AllByRecursion (λ (mark : Mark). link_of mark ≡ other) added → IsSame o link old (old ++ added)
 same_by o link other old [] ne own =
-    subst (IsSame o link old) (sym (append-nil old)) (record { lawful = λ h. h; written = λ h w. w })
+    subst (IsSame o link old) (sym (append-nil old)) (record { lawful = λ h. h; written = λ h w. w; same_client = refl })
 same_by o link other old (mark ∷ added) ne own =
     let apart_from : link_of mark ≢ link = (λ same. ne (sym own.0 ∙ same)) in
     let run = old ++ mark ∷ [] in
     let one : IsLawful o link old → IsLawful o link run =
     (λ h. lawful_mark o link old mark h (not_written link Initiator mark apart_from) (not_written link Responder mark apart_from)
-    (asked_elsewhere o link old mark apart_from) (served_elsewhere o link old mark apart_from) (accepted_elsewhere o link old mark apart_from)) in
+    (asked_elsewhere o link old mark apart_from) (served_elsewhere o link old mark apart_from) (accepted_elsewhere o link old mark apart_from) (resent_elsewhere o link old mark apart_from)) in
     let rest = same_by o link other run added ne own.1 in
     subst (IsSame o link old) (append_assoc old (mark ∷ []) added) (record {
       lawful = λ h. rest.lawful (one h);
@@ -133,6 +153,19 @@ same_by o link other old (mark ∷ added) ne own =
         client = same_left o link Initiator old mark apart_from h.client ∙ w.client;
         server = same_left o link Responder old mark apart_from h.server ∙ w.server;
       });
+      same_client = rest.same_client ∙ client_elsewhere o link other old (mark ∷ []) ne (own.0, tt);
+    })
+
+-- no mark is of the link
+pub same_all : (o : LinkParameters) (link : ℕ) (old added : List Mark) → AllByRecursion (λ (mark : Mark). link_of mark ≢ link) added → IsSame o link old (old ++ added)
+same_all o link old [] apart = subst (IsSame o link old) (sym (append-nil old)) (record { lawful = λ h. h; written = λ h w. w; same_client = refl })
+same_all o link old (mark ∷ added) apart =
+    let one = same_by o link (link_of mark) old (mark ∷ []) apart.0 (refl, tt) in
+    let rest = same_all o link (old ++ mark ∷ []) added apart.1 in
+    subst (IsSame o link old) (append_assoc old (mark ∷ []) added) (record {
+      lawful = λ h. rest.lawful (one.lawful h);
+      written = λ h w. rest.written (one.lawful h) (one.written h w);
+      same_client = rest.same_client ∙ one.same_client;
     })
 
 pub elsewhere : (o : LinkParameters) (link other : ℕ) (old new : List Mark) → other ≢ link → Adds other old new → IsSame o link old new
@@ -316,7 +349,7 @@ keeps_by s acted link old new a h = by (eqb acted link) refl
     by true is = (let same = eqb-true acted link is in subst (λ (l : ℕ). Keeps s l new) same (a.own (subst (λ (l : ℕ). Keeps s l old) (sym same) h)))
     by false is =
         let others = elsewhere (s.opened link) link acted old.marks new.marks (λ same. differs (sym is ∙ eq-eqb acted link same)) a.extends.marks in
-        (others.lawful h.0, others.written h.0 h.1)
+        (others.lawful h.0, others.written h.0 h.1, ap calls_to_resend others.same_client ∙ h.2)
       where
         differs : false ≡ true → ⊥
         differs e = absurd cc
@@ -332,27 +365,34 @@ quiet_mark o link run mark h w up down none_up none_down = record {
 }
 
 pub keeps_drop : (s : Setting) (link : ℕ) (d : Drill) → Keeps s link d → Keeps s link (after_drop link d)
-keeps_drop s link d h = (lawful_drop s link d h.0, quiet_mark (s.opened link) link d.marks (marks.Drop link) h.0 h.1 refl refl refl refl)
+keeps_drop s link d h = (lawful_drop s link d h.0, quiet_mark (s.opened link) link d.marks (marks.Drop link) h.0 h.1 refl refl refl refl, again_mark (s.opened link) link d.marks (marks.Drop link) tt h.2)
 
 pub keeps_grant : (s : Setting) (link credits : ℕ) (d : Drill) → ToldInRange (s.opened link) (Granted credits) → Keeps s link d → Keeps s link (after_grant link credits d)
 keeps_grant s link credits d within h = (
   lawful_grant s link credits d within h.0,
   quiet_mark (s.opened link) link d.marks (marks.Told link (Granted credits)) h.0 h.1 refl refl (quiet_grant (s.opened link) link Initiator d.marks credits) (quiet_grant (s.opened link) link Responder d.marks credits),
+  again_mark (s.opened link) link d.marks (marks.Told link (Granted credits)) (other_side_lem (eqb link link) _) h.2,
 )
 
 pub keeps_giving_up : (s : Setting) (link : ℕ) (xid : Option ℕ) (d : Drill) → Keeps s link d → IsWritten (s.opened link) link (after_giving_up link xid d).marks
 keeps_giving_up s link None d h = h.1
 keeps_giving_up s link (Some xid) d h = quiet_mark (s.opened link) link d.marks (marks.Forget link xid) h.0 h.1 refl refl refl refl
 
-pub keeps_forget : (s : Setting) (link number : ℕ) (d : Drill) → AreFirst s → Keeps s link d → Keeps s link (after_forget s link number d)
+giving_up_none : (s : Setting) (link : ℕ) (xid : Option ℕ) (d : Drill) → Keeps s link d → NoneAgain (s.opened link) link (after_giving_up link xid d).marks
+giving_up_none s link None d h = h.2
+giving_up_none s link (Some xid) d h = again_mark (s.opened link) link d.marks (marks.Forget link xid) tt h.2
+
+pub keeps_forget : (s : Setting) (link number : ℕ) (d : Drill) → OpenIsAwaited s link d → Keeps s link d → Keeps s link (after_forget s link number d)
 unfolding after_forget
-keeps_forget s link number d first h = (lawful_forget s link number d first h.0, keeps_giving_up s link (open_xid s link d.marks (answer_of_line s (client_of s link) number d.marks)) d h)
+keeps_forget s link number d awaited h =
+    let xid = open_xid s link d.marks (answer_of_line s (client_of s link) number d.marks) in
+    (lawful_forget s link number d awaited h.2 h.0, keeps_giving_up s link xid d h, giving_up_none s link xid d h)
 
 pub keeps_raw : (s : Setting) (link : ℕ) (side : Side) (bytes : List ℕ) (dropped : Bool) (d : Drill) → Keeps s link d → Keeps s link (after_raw link side bytes dropped d)
 keeps_raw s link side bytes true d h = h
 keeps_raw s link side bytes false d h = h
 
--- ===== lines
+-- ===== credentials
 
 abbrev pub AreWritable : List Cred → Type 0
 AreWritable creds = AllByRecursion CanWriteCred creds
@@ -367,30 +407,12 @@ with_cred_at [] i cred h w = tt
 with_cred_at (c ∷ all) zero cred h w = (w, h.1)
 with_cred_at (c ∷ all) (suc i) cred h w = (h.0, with_cred_at all i cred h.1 w)
 
--- the laws of a link, and credentials that can be encoded
-pub record Holds (s : Setting) (link : ℕ) (d : Drill) : Type 0 where
-  pub keeps : Keeps s link d
-  pub creds : AreWritable d.creds
+pub start_creds : (clients : ℕ) → AreWritable (replicate clients creds.None)
+start_creds zero = tt
+start_creds (suc n) = (tt, start_creds n)
 
--- what the links of a drill are opened with: in range, and none was reopened
-pub record AreFit (s : Setting) : Type 0 where
-  pub first : AreFirst s
-  pub opened : (link : ℕ) → IsOpened (s.opened link)
+-- ===== what the links were opened with
 
-pub holds_by : (s : Setting) (acted link : ℕ) (old new : Drill) → Acts s acted old new → Holds s link old → Holds s link new
-holds_by s acted link old new a h = record { keeps = keeps_by s acted link old new a h.keeps; creds = subst AreWritable (sym a.extends.creds) h.creds }
-
--- What a line has to be for the laws to hold after it: its credential can be encoded, its credits are within those of the server, and no client
--- begins another link.
-abbrev pub GrantsWithin : Setting → Line → Type 0
-GrantsWithin s (lines.Grant client credits) = (link : ℕ) → ToldInRange (s.opened link) (Granted credits)
-GrantsWithin s (lines.Rejoin client) = ⊥
-GrantsWithin s line = Unit {0}
-
-abbrev pub IsFit : Setting → Line → Type 0
-IsFit s line = HasWritableCred line × GrantsWithin s line
-
--- what the links were opened with stays
 pub record KeepsLinks (old new : Drill) : Type 0 where
   pub opened : new.opened ≡ old.opened
   pub last_links : new.last_links ≡ old.last_links
@@ -399,261 +421,9 @@ pub extending_keeps : (link : ℕ) (old new : Drill) → Extends link old new �
 extending_keeps link old new x = record { opened = x.opened; last_links = x.last_links }
 
 pub same_setting : (s : Setting) (old new : Drill) → KeepsLinks old new → setting_now s new ≡ setting_now s old
-same_setting s old new k = ap (λ (all : List LinkParameters). record s { opened = λ link. slice_index_or all (link - 1) (s.opened link) }) k.opened
+same_setting s old new k = ap (λ (all : List LinkParameters). record s { opened = λ link. slice_index_or (s.opened 0 ∷ all) link (s.opened link) }) k.opened
 
-abbrev pub HoldsNow : Setting → ℕ → Drill → Type 0
-HoldsNow s link d = Holds (setting_now s d) link d
-
-holds_now : (s : Setting) (acted link : ℕ) (old new : Drill) → Acts (setting_now s old) acted old new → HoldsNow s link old → HoldsNow s link new
-holds_now s acted link old new a h =
-    subst (λ (t : Setting). Holds t link new) (sym (same_setting s old new (extending_keeps acted old new a.extends))) (holds_by (setting_now s old) acted link old new a h)
-
-pub line_holds : (s : Setting) (link : ℕ) (line : Line) (d : Drill) → AreFit (setting_now s d) → IsFit (setting_now s d) line → HoldsNow s link d → HoldsNow s link (after_line s line d)
-line_holds s link (lines.Cred client cred) d fit w h = record { keeps = h.keeps; creds = with_cred_at d.creds (client - 1) cred h.creds w.0 }
-line_holds s link (lines.Call client form prog vers proc args) d fit w h =
-    let t = setting_now s d in
-    let own = last_link client d in
-    let call : Call = record { prog = prog; vers = vers; proc = proc; cred = cred_of client d; args = args } in
-    holds_now s own link d (after_submit t own call form d) (record {
-      own = λ k. lawful_submit t own call form d (fit.first.on own) (fit.opened own) (cred_at d.creds (client - 1) h.creds) k;
-      extends = submit_adds t own call form d;
-    }) h
-line_holds s link (lines.Up client most) d fit w h =
-    let t = setting_now s d in
-    let own = last_link client d in
-    holds_now s own link d (after_up t own most d) (record { own = λ k. lawful_after_up t own most d k; extends = up_adds t own most d }) h
-line_holds s link (lines.Down client most) d fit w h =
-    let t = setting_now s d in
-    let own = last_link client d in
-    holds_now s own link d (after_down t own most d) (record { own = λ k. lawful_after_down t own most d (fit.first.on own) k; extends = down_adds t own most d }) h
-line_holds s link (lines.Work client) d fit w h =
-    let t = setting_now s d in
-    let own = last_link client d in
-    holds_now s own link d (after_work t own d) (record { own = λ k. lawful_work t own d k; extends = work_adds t own d }) h
-line_holds s link (lines.Tick seconds) d fit w h = record { keeps = h.keeps; creds = h.creds }
-line_holds s link (lines.Forget client number) d fit w h =
-    let t = setting_now s d in
-    let own = last_link client d in
-    holds_now s own link d (after_forget t own number d) (record { own = λ k. keeps_forget t own number d fit.first k; extends = forget_adds t own number d }) h
-line_holds s link (lines.Revoke client number) d fit w h =
-    let t = setting_now s d in
-    let own = last_link client d in
-    holds_now s own link d (after_revoke t own number d) (record { own = λ k. lawful_revoke t own number d fit.first k; extends = revoke_adds t own number d }) h
-line_holds s link (lines.Drop client) d fit w h =
-    let t = setting_now s d in
-    let own = last_link client d in
-    holds_now s own link d (after_drop own d) (record { own = λ k. keeps_drop t own d k; extends = drop_adds own d }) h
-line_holds s link (lines.Rejoin client) d fit w h = absurd w.1
-line_holds s link (lines.Raw client side bytes) d fit w h =
-    let t = setting_now s d in
-    let own = last_link client d in
-    holds_now s own link d (after_raw own side bytes (is_dropped own d.marks) d)
-    (record { own = λ k. keeps_raw t own side bytes (is_dropped own d.marks) d k; extends = raw_adds own side bytes (is_dropped own d.marks) d }) h
-line_holds s link (lines.Grant client credits) d fit w h =
-    let t = setting_now s d in
-    let own = last_link client d in
-    holds_now s own link d (after_grant own credits d) (record { own = λ k. keeps_grant t own credits d (w.1 own) k; extends = grant_adds own credits d }) h
-line_holds s link lines.Drain d fit w h = h
-
--- ===== drains
-
-pub round_holds : (s : Setting) (link : ℕ) (links : List ℕ) (d : Drill) → AreFirst s → Holds s link d → Holds s link (after_round s links d)
-round_holds s link [] d first h = h
-round_holds s link (l ∷ links) d first h =
-    round_holds s link links (after_moves s l d) first
-    (holds_by s l link d (after_moves s l d) (record { own = λ k. lawful_moves s l d (first.on l) k; extends = moves_adds s l d }) h)
-
-pub drain_holds : (s : Setting) (link : ℕ) (links : List ℕ) (rounds : ℕ) (old new : Drill) → Drains s links rounds old new → AreFirst s → Holds s link old → Holds s link new
-drain_holds s link links zero old new drains first h = subst (Holds s link) (sym drains.1) h
-drain_holds s link links (suc rounds) old new drains first h = drain_holds s link links rounds (after_round s links old) new drains.1 first (round_holds s link links old first h)
-
--- ===== what a line leaves of the links
-
-no_links : (old new : Drill) → new ≡ old → KeepsLinks old new
-no_links old new e = record { opened = ap (λ (d : Drill). d.opened) e; last_links = ap (λ (d : Drill). d.last_links) e }
-
-both_keep : (a b c : Drill) → KeepsLinks a b → KeepsLinks b c → KeepsLinks a c
-both_keep a b c x y = record { opened = y.opened ∙ x.opened; last_links = y.last_links ∙ x.last_links }
-
-pub round_keeps : (s : Setting) (links : List ℕ) (d : Drill) → KeepsLinks d (after_round s links d)
-round_keeps s [] d = no_links d d refl
-round_keeps s (l ∷ links) d =
-    both_keep d (after_moves s l d) (after_round s links (after_moves s l d)) (extending_keeps l d (after_moves s l d) (moves_adds s l d)) (round_keeps s links (after_moves s l d))
-
-pub drain_keeps : (s : Setting) (links : List ℕ) (rounds : ℕ) (old new : Drill) → Drains s links rounds old new → KeepsLinks old new
-drain_keeps s links zero old new drains = no_links old new drains.1
-drain_keeps s links (suc rounds) old new drains = both_keep old (after_round s links old) new (round_keeps s links old) (drain_keeps s links rounds (after_round s links old) new drains.1)
-
-pub line_keeps : (s : Setting) (line : Line) (d : Drill) → IsFit (setting_now s d) line → KeepsLinks d (after_line s line d)
-line_keeps s (lines.Cred client cred) d w = record { opened = refl; last_links = refl }
-line_keeps s (lines.Call client form prog vers proc args) d w =
-    let call : Call = record { prog = prog; vers = vers; proc = proc; cred = cred_of client d; args = args } in
-    extending_keeps (last_link client d) d _ (submit_adds (setting_now s d) (last_link client d) call form d)
-line_keeps s (lines.Up client most) d w = extending_keeps (last_link client d) d _ (up_adds (setting_now s d) (last_link client d) most d)
-line_keeps s (lines.Down client most) d w = extending_keeps (last_link client d) d _ (down_adds (setting_now s d) (last_link client d) most d)
-line_keeps s (lines.Work client) d w = extending_keeps (last_link client d) d _ (work_adds (setting_now s d) (last_link client d) d)
-line_keeps s (lines.Tick seconds) d w = record { opened = refl; last_links = refl }
-line_keeps s (lines.Forget client number) d w = extending_keeps (last_link client d) d _ (forget_adds (setting_now s d) (last_link client d) number d)
-line_keeps s (lines.Revoke client number) d w = extending_keeps (last_link client d) d _ (revoke_adds (setting_now s d) (last_link client d) number d)
-line_keeps s (lines.Drop client) d w = extending_keeps (last_link client d) d _ (drop_adds (last_link client d) d)
-line_keeps s (lines.Rejoin client) d w = absurd w.1
-line_keeps s (lines.Raw client side bytes) d w = extending_keeps (last_link client d) d _ (raw_adds (last_link client d) side bytes (is_dropped (last_link client d) d.marks) d)
-line_keeps s (lines.Grant client credits) d w = extending_keeps (last_link client d) d _ (grant_adds (last_link client d) credits d)
-line_keeps s lines.Drain d w = record { opened = refl; last_links = refl }
-
-pub made_keeps : (s : Setting) (clients : ℕ) (line : Line) (old new : Drill) → IsFit (setting_now s old) line → Makes s clients line old new → KeepsLinks old new
-made_keeps s clients (lines.Cred client cred) old new w e = both_keep old (after_line s (lines.Cred client cred) old) new (line_keeps s (lines.Cred client cred) old w) (no_links (after_line s (lines.Cred client cred) old) new e)
-made_keeps s clients (lines.Call client form prog vers proc args) old new w e = both_keep old (after_line s (lines.Call client form prog vers proc args) old) new (line_keeps s (lines.Call client form prog vers proc args) old w) (no_links (after_line s (lines.Call client form prog vers proc args) old) new e)
-made_keeps s clients (lines.Up client most) old new w e = both_keep old (after_line s (lines.Up client most) old) new (line_keeps s (lines.Up client most) old w) (no_links (after_line s (lines.Up client most) old) new e)
-made_keeps s clients (lines.Down client most) old new w e = both_keep old (after_line s (lines.Down client most) old) new (line_keeps s (lines.Down client most) old w) (no_links (after_line s (lines.Down client most) old) new e)
-made_keeps s clients (lines.Work client) old new w e = both_keep old (after_line s (lines.Work client) old) new (line_keeps s (lines.Work client) old w) (no_links (after_line s (lines.Work client) old) new e)
-made_keeps s clients (lines.Tick seconds) old new w e = both_keep old (after_line s (lines.Tick seconds) old) new (line_keeps s (lines.Tick seconds) old w) (no_links (after_line s (lines.Tick seconds) old) new e)
-made_keeps s clients (lines.Forget client number) old new w e = both_keep old (after_line s (lines.Forget client number) old) new (line_keeps s (lines.Forget client number) old w) (no_links (after_line s (lines.Forget client number) old) new e)
-made_keeps s clients (lines.Revoke client number) old new w e = both_keep old (after_line s (lines.Revoke client number) old) new (line_keeps s (lines.Revoke client number) old w) (no_links (after_line s (lines.Revoke client number) old) new e)
-made_keeps s clients (lines.Drop client) old new w e = both_keep old (after_line s (lines.Drop client) old) new (line_keeps s (lines.Drop client) old w) (no_links (after_line s (lines.Drop client) old) new e)
-made_keeps s clients (lines.Rejoin client) old new w e = both_keep old (after_line s (lines.Rejoin client) old) new (line_keeps s (lines.Rejoin client) old w) (no_links (after_line s (lines.Rejoin client) old) new e)
-made_keeps s clients (lines.Raw client side bytes) old new w e = both_keep old (after_line s (lines.Raw client side bytes) old) new (line_keeps s (lines.Raw client side bytes) old w) (no_links (after_line s (lines.Raw client side bytes) old) new e)
-made_keeps s clients (lines.Grant client credits) old new w e = both_keep old (after_line s (lines.Grant client credits) old) new (line_keeps s (lines.Grant client credits) old w) (no_links (after_line s (lines.Grant client credits) old) new e)
-made_keeps s clients lines.Drain old new w e = drain_keeps (setting_now s old) old.last_links e.0 old new e.1
-
--- ===== a line
-
-pub line_made : (s : Setting) (clients link : ℕ) (line : Line) (old new : Drill) → AreFit (setting_now s old) → IsFit (setting_now s old) line → Makes s clients line old new → HoldsNow s link old → HoldsNow s link new
-line_made s clients link (lines.Cred client cred) old new fit w e h = subst (HoldsNow s link) (sym e) (line_holds s link (lines.Cred client cred) old fit w h)
-line_made s clients link (lines.Call client form prog vers proc args) old new fit w e h = subst (HoldsNow s link) (sym e) (line_holds s link (lines.Call client form prog vers proc args) old fit w h)
-line_made s clients link (lines.Up client most) old new fit w e h = subst (HoldsNow s link) (sym e) (line_holds s link (lines.Up client most) old fit w h)
-line_made s clients link (lines.Down client most) old new fit w e h = subst (HoldsNow s link) (sym e) (line_holds s link (lines.Down client most) old fit w h)
-line_made s clients link (lines.Work client) old new fit w e h = subst (HoldsNow s link) (sym e) (line_holds s link (lines.Work client) old fit w h)
-line_made s clients link (lines.Tick seconds) old new fit w e h = subst (HoldsNow s link) (sym e) (line_holds s link (lines.Tick seconds) old fit w h)
-line_made s clients link (lines.Forget client number) old new fit w e h = subst (HoldsNow s link) (sym e) (line_holds s link (lines.Forget client number) old fit w h)
-line_made s clients link (lines.Revoke client number) old new fit w e h = subst (HoldsNow s link) (sym e) (line_holds s link (lines.Revoke client number) old fit w h)
-line_made s clients link (lines.Drop client) old new fit w e h = subst (HoldsNow s link) (sym e) (line_holds s link (lines.Drop client) old fit w h)
-line_made s clients link (lines.Rejoin client) old new fit w e h = subst (HoldsNow s link) (sym e) (line_holds s link (lines.Rejoin client) old fit w h)
-line_made s clients link (lines.Raw client side bytes) old new fit w e h = subst (HoldsNow s link) (sym e) (line_holds s link (lines.Raw client side bytes) old fit w h)
-line_made s clients link (lines.Grant client credits) old new fit w e h = subst (HoldsNow s link) (sym e) (line_holds s link (lines.Grant client credits) old fit w h)
-line_made s clients link lines.Drain old new fit w e h =
-    subst (λ (t : Setting). Holds t link new) (sym (same_setting s old new (drain_keeps (setting_now s old) old.last_links e.0 old new e.1)))
-    (drain_holds (setting_now s old) link old.last_links e.0 old new e.1 fit.first h)
-
--- what the links were opened with at first stays
-pub lines_keep : (s t : Setting) (clients : ℕ) (all : List Line) (old new : Drill) → setting_now s old ≡ t → AllByRecursion (IsFit t) all → MakeAll s clients all old new → KeepsLinks old new
-lines_keep s t clients [] old new is w e = no_links old new e
-lines_keep s t clients (line ∷ others) old new is w e =
-    let keeps = made_keeps s clients line old e.0 (subst (λ (x : Setting). IsFit x line) (sym is) w.0) e.1 in
-    both_keep old e.0 new keeps (lines_keep s t clients others e.0 new (same_setting s old e.0 keeps ∙ is) w.1 e.2)
-
-pub lines_made : (s t : Setting) (clients link : ℕ) (all : List Line) (old new : Drill) → setting_now s old ≡ t → AreFit t → AllByRecursion (IsFit t) all → MakeAll s clients all old new →
-    HoldsNow s link old → HoldsNow s link new
-lines_made s t clients link [] old new is fit w e h = subst (HoldsNow s link) (sym e) h
-lines_made s t clients link (line ∷ others) old new is fit w e h =
-    let own = subst (λ (x : Setting). IsFit x line) (sym is) w.0 in
-    let keeps = made_keeps s clients line old e.0 own e.1 in
-    lines_made s t clients link others e.0 new (same_setting s old e.0 keeps ∙ is) fit w.1 e.2 (line_made s clients link line old e.0 (subst AreFit (sym is) fit) own e.1 h)
-
--- ===== links open
-
-abbrev pub Among : ℕ → List ℕ → Type 0
-Among link [] = ⊥
-Among link (l ∷ links) = (l ≡ link) ⊎ Among link links
-
-pub among_range : (link from n : ℕ) → from ≤ link → link < from + n → Among link (range_with_len from n)
-among_range link from zero low high = absurd (omega (arith, low, high))
-among_range link from (suc n) low high = by (eqb from link) refl (λ differs. among_range link (from + 1) n (let d = differs in omega (arith, low, d)) (omega (arith, high)))
-  where
-    by : (b : Bool) → eqb from link ≡ b → (from ≢ link → Among link (range_with_len (from + 1) n)) → (from ≡ link) ⊎ Among link (range_with_len (from + 1) n)
-    by true is more = inl (eqb-true from link is)
-    by false is more = inr (more (λ same. differs (sym is ∙ eq-eqb from link same)))
-      where
-        differs : false ≡ true → ⊥
-        differs e = absurd cc
-
-pub opening_adds : (s : Setting) (link : ℕ) (d : Drill) → Extends link d (after_opening s link d)
-unfolding after_opening
-opening_adds s link d =
-    let one = settled s link d in
-    let two = after_all_up s link one in
-    both_add link d two (after_all_down s link two)
-    (both_add link d one two (settled_adds s link d) (up_adds s link (length (pipes_of link one).up) one))
-    (down_adds s link (length (pipes_of link two).down) two)
-
--- a link that opens keeps its laws
-pub opening_keeps : (s : Setting) (link : ℕ) (d : Drill) → IsFirstLink (s.opened link) → IsLawful (s.opened link) link d.marks → Keeps s link (after_opening s link d)
-unfolding after_opening
-opening_keeps s link d first h =
-    let one = settled s link d in
-    let two = after_all_up s link one in
-    lawful_after_down s link (length (pipes_of link two).down) two first (lawful_after_up s link (length (pipes_of link one).up) one (lawful_settled s link d h))
-
-pub openings_keep : (s : Setting) (link : ℕ) (links : List ℕ) (d : Drill) → AreFirst s → Holds s link d → Holds s link (after_openings s links d)
-openings_keep s link [] d first h = h
-openings_keep s link (l ∷ links) d first h =
-    openings_keep s link links (after_opening s l d) first
-    (holds_by s l link d (after_opening s l d) (record { own = λ k. opening_keeps s l d (first.on l) k.0; extends = opening_adds s l d }) h)
-
-pub openings_hold : (s : Setting) (link : ℕ) (links : List ℕ) (d : Drill) → AreFirst s → Among link links → IsLawful (s.opened link) link d.marks → AreWritable d.creds → Holds s link (after_openings s links d)
-openings_hold s link [] d first among h w = absurd among
-openings_hold s link (l ∷ links) d first among h w = by (eqb l link) refl among (openings_hold s link links (after_opening s l d) first)
-  where
-    creds : AreWritable (after_opening s l d).creds
-    creds = subst AreWritable (sym (opening_adds s l d).creds) w
-
-    opened_here : l ≡ link → Holds s link (after_openings s links (after_opening s l d))
-    opened_here same = openings_keep s link links (after_opening s l d) first (record {
-      keeps = subst (λ (k : ℕ). Keeps s k (after_opening s l d)) same (opening_keeps s l d (first.on l) (subst (λ (k : ℕ). IsLawful (s.opened k) k d.marks) (sym same) h));
-      creds = creds;
-    })
-
-    differs : false ≡ true → ⊥
-    differs e = absurd cc
-
-    by : (b : Bool) → eqb l link ≡ b → (l ≡ link) ⊎ Among link links →
-        (Among link links → IsLawful (s.opened link) link (after_opening s l d).marks → AreWritable (after_opening s l d).creds → Holds s link (after_openings s links (after_opening s l d))) →
-        Holds s link (after_openings s links (after_opening s l d))
-    by true is among more = opened_here (eqb-true l link is)
-    by false is (inl same) more = opened_here same
-    by false is (inr later) more =
-        more later ((elsewhere (s.opened link) link l d.marks (after_opening s l d).marks (λ same. differs (sym is ∙ eq-eqb l link same)) (opening_adds s l d).marks).lawful h) creds
-
--- ===== before anything happened
-
-pub start_lawful : (o : LinkParameters) (link : ℕ) → IsLawful o link []
-unfolding bytes_sent
-start_lawful o link = record {
-  asked = tt;
-  served = tt;
-  accepts = tt;
-  client = due_of o link Initiator [] (output_due o link Initiator []) refl;
-  server = due_of o link Responder [] (output_due o link Responder []) refl;
-}
-
-pub start_creds : (clients : ℕ) → AreWritable (replicate clients creds.None)
-start_creds zero = tt
-start_creds (suc n) = (tt, start_creds n)
-
--- ===== the laws
-
-pub all_written : (sent left due : List ℕ) → sent ++ left ≡ due → left ≡ [] → sent ≡ due
-all_written sent left due is none = sym (append-nil sent) ∙ ap (λ (xs : List ℕ). sent ++ xs) (sym none) ∙ is
-
--- what a run that follows a script keeps of each link
-pub record KeepsAll (o : LinkParameters) (link : ℕ) (run : List Mark) : Type 0 where
-  pub asked : Asked o link run
-  pub served : Served o link run
-  pub accepts : AcceptsByRule o link run
-
-pub laws_of : (o : LinkParameters) (link : ℕ) (run : List Mark) → IsFirstLink o → IsLawful o link run → IsWritten o link run → KeepsAll o link run
-laws_of o link run first h w = record {
-  asked = record {
-    each = h.asked;
-    written = all_written (bytes_sent link Initiator run) (unwritten o link Initiator run) (output_due o link Initiator run) h.client w.client;
-    resent = resent_marks o link run first.resumed;
-    none_left = none_resent o link run first.resumed;
-  };
-  served = record { each = h.served; written = all_written (bytes_sent link Responder run) (unwritten o link Responder run) (output_due o link Responder run) h.server w.server };
-  accepts = h.accepts;
-}
-
-pub opened_by_script : (script : ScriptLines) → IsScript script → (link : ℕ) → IsOpened (parameters_of script.opening link)
+pub opened_by_script : (script : ScriptLines) → IsDrillScript script → (link : ℕ) → IsOpened (parameters_of script.opening link)
 opened_by_script script is link =
     let some = is.some_credits in
     let few = is.few_credits in
@@ -670,83 +440,62 @@ opened_by_script script is link =
       receives = omega arith;
     }
 
--- the lines of a script are so
-both_so : (a b : Bool) → (a && b) ≡ true → (a ≡ true) × (b ≡ true)
-both_so true b e = (refl, e)
-both_so false b e = absurd cc
+-- ===== a link opens
 
-grants_within : (server : SerialServer) (opening : Opening) (before : List Line) (line : Line) → opening.numbered ≡ false → may_follow opening before line ≡ true → GrantsWithin (setting_of server opening) line
-grants_within server opening before (lines.Grant client credits) none e =
-    let within = both_so (leb 1 credits) (leb credits opening.credits) (both_so (is_client opening client) (credits_in_range opening credits) e).1 in
-    λ link. (leb-true 1 credits within.0, leb-true credits opening.credits within.1)
-grants_within server opening before (lines.Rejoin client) none e = not_numbered (both_so (is_client opening client) opening.numbered e).1
-  where
-    not_numbered : opening.numbered ≡ true → ⊥
-    not_numbered is = (let two : true ≡ false = sym is ∙ none in absurd cc)
-grants_within server opening before (lines.Cred client cred) none e = tt
-grants_within server opening before (lines.Call client form prog vers proc args) none e = tt
-grants_within server opening before (lines.Up client most) none e = tt
-grants_within server opening before (lines.Down client most) none e = tt
-grants_within server opening before (lines.Work client) none e = tt
-grants_within server opening before (lines.Tick seconds) none e = tt
-grants_within server opening before (lines.Forget client number) none e = tt
-grants_within server opening before (lines.Revoke client number) none e = tt
-grants_within server opening before (lines.Drop client) none e = tt
-grants_within server opening before (lines.Raw client side bytes) none e = tt
-grants_within server opening before lines.Drain none e = tt
+pub opening_adds : (s : Setting) (link : ℕ) (d : Drill) → Extends link d (after_opening s link d)
+unfolding after_opening
+opening_adds s link d =
+    let one = settled s link d in
+    let two = after_all_up s link one in
+    both_add link d two (after_all_down s link two)
+    (both_add link d one two (settled_adds s link d) (up_adds s link (length (pipes_of link one).up) one))
+    (down_adds s link (length (pipes_of link two).down) two)
 
-fit_from : (server : SerialServer) (opening : Opening) (before all : List Line) → opening.numbered ≡ false → FollowOn opening before all → AllByRecursion HasWritableCred all → AllByRecursion (IsFit (setting_of server opening)) all
-fit_from server opening before [] none h w = tt
-fit_from server opening before (line ∷ all) none h w = ((w.0, grants_within server opening before line none h.0), fit_from server opening (before ++ line ∷ []) all none h.1 w.1)
+-- a link that opens keeps its laws
+pub opening_keeps : (s : Setting) (link : ℕ) (d : Drill) → IsOpened (s.opened link) → NoneAgain (s.opened link) link d.marks → IsLawful (s.opened link) link d.marks → Keeps s link (after_opening s link d)
+unfolding after_opening
+opening_keeps s link d numbers none h =
+    let one = settled s link d in
+    let two = after_all_up s link one in
+    lawful_after_down s link (length (pipes_of link two).down) two numbers (lawful_after_up s link (length (pipes_of link one).up) one (lawful_settled s link d none h))
 
-pub all_fit : (server : SerialServer) (script : ScriptLines) → IsScript script → IsUnnumbered script → AllByRecursion (IsFit (setting_of server script.opening)) script.lines
-all_fit server script is none = fit_from server script.opening [] script.lines none is.follow_on is.creds
+-- ===== before anything happened
 
--- ===== the links of a script whose clients have no numbers
+pub start_lawful : (o : LinkParameters) (link : ℕ) → IsLawful o link []
+unfolding bytes_sent
+start_lawful o link = record {
+  asked = tt;
+  served = tt;
+  accepts = tt;
+  client = due_of o link Initiator [] (output_due o link Initiator []) refl;
+  server = due_of o link Responder [] (output_due o link Responder []) refl;
+  resent = tt;
+}
 
-pub openings_keep_links : (s : Setting) (links : List ℕ) (d : Drill) → KeepsLinks d (after_openings s links d)
-openings_keep_links s [] d = no_links d d refl
-openings_keep_links s (l ∷ links) d =
-    both_keep d (after_opening s l d) (after_openings s links (after_opening s l d)) (extending_keeps l d (after_opening s l d) (opening_adds s l d)) (openings_keep_links s links (after_opening s l d))
+-- no hello came yet
+pub start_none : (o : LinkParameters) (link : ℕ) → NoneAgain o link []
+unfolding client events calls_to_resend
+start_none o link = refl
 
-pub opened_links : (server : SerialServer) (opening : Opening) → KeepsLinks (start (setting_of server opening) opening.clients) (opened_drill server opening)
-unfolding opened_drill
-opened_links server opening = openings_keep_links (setting_of server opening) (links_of opening.clients) (start (setting_of server opening) opening.clients)
+-- ===== the laws
 
--- the links are those of the first line, opened as it says, after any of the first lines
-pub record HasFirstLinks (server : SerialServer) (opening : Opening) (d : Drill) : Type 0 where
-  pub setting : setting_now (setting_of server opening) d ≡ setting_of server opening
-  pub last_links : d.last_links ≡ links_of opening.clients
-  pub links : d.opened ≡ (start (setting_of server opening) opening.clients).opened
+pub all_written : (sent left due : List ℕ) → sent ++ left ≡ due → left ≡ [] → sent ≡ due
+all_written sent left due is none = sym (append-nil sent) ∙ ap (λ (xs : List ℕ). sent ++ xs) (sym none) ∙ is
 
-pub at_first : (server : SerialServer) (opening : Opening) (d : Drill) → opening.numbered ≡ false → KeepsLinks (start (setting_of server opening) opening.clients) d → HasFirstLinks server opening d
-at_first server opening d none k = record { setting = now_is server opening opening.clients d none k.opened; last_links = k.last_links; links = k.opened }
+-- the laws of both ends of a link
+pub record KeepsAll (o : LinkParameters) (link : ℕ) (run : List Mark) : Type 0 where
+  pub asked : Asked o link run
+  pub served : Served o link run
+  pub accepts : AcceptsByRule o link run
 
-pub opened_first_links : (server : SerialServer) (opening : Opening) → opening.numbered ≡ false → HasFirstLinks server opening (opened_drill server opening)
-opened_first_links server opening none = at_first server opening (opened_drill server opening) none (opened_links server opening)
-
-pub has_first_links : (server : SerialServer) (script : ScriptLines) (all : List Line) (d : Drill) → IsUnnumbered script → AllByRecursion (IsFit (setting_of server script.opening)) all →
-    MakeAll (setting_of server script.opening) script.opening.clients all (opened_drill server script.opening) d → HasFirstLinks server script.opening d
-has_first_links server script all d none fit makes =
-    let s = setting_of server script.opening in
-    let first = opened_first_links server script.opening none in
-    at_first server script.opening d none (both_keep (start s script.opening.clients) (opened_drill server script.opening) d (opened_links server script.opening)
-    (lines_keep s s script.opening.clients all (opened_drill server script.opening) d first.setting fit makes))
-
-pub follows_first : (server : SerialServer) (script : ScriptLines) (run : List Mark) → IsScript script → IsUnnumbered script → (f : Follows server script run) → HasFirstLinks server script.opening f.last
-follows_first server script run is none f = has_first_links server script script.lines f.last none (all_fit server script is none) f.makes
-
-pub follows_keeps_laws : (server : SerialServer) (script : ScriptLines) (run : List Mark) → IsScript script → IsUnnumbered script → Follows server script run → (link : ℕ) → 1 ≤ link → link ≤ script.opening.clients →
-    KeepsAll (parameters_of script.opening link) link run
-unfolding opened_drill
-follows_keeps_laws server script run is none follows link low high =
-    let s = setting_of server script.opening in
-    let opening = script.opening in
-    let firsts : AreFirst s = opened_firsts server opening none in
-    let first = openings_hold s link (links_of opening.clients) (start s opening.clients) firsts (among_range link 1 opening.clients low (omega (arith, high)))
-    (start_lawful (parameters_of opening link) link) (start_creds opening.clients) in
-    let now = (opened_first_links server opening none).setting in
-    let last = lines_made s s opening.clients link script.lines (opened_drill server opening) follows.last now (record { first = firsts; opened = opened_by_script script is }) (all_fit server script is none) follows.makes
-    (subst (λ (t : Setting). Holds t link (opened_drill server opening)) (sym now) first) in
-    let held : Holds s link follows.last = subst (λ (t : Setting). Holds t link follows.last) (follows_first server script run is none follows).setting last in
-    subst (KeepsAll (parameters_of opening link) link) (sym follows.marks_are) (laws_of (parameters_of opening link) link follows.last.marks (firsts.on link) held.keeps.0 held.keeps.1)
+pub laws_of : (o : LinkParameters) (link : ℕ) (run : List Mark) → IsLawful o link run → IsWritten o link run → NoneAgain o link run → KeepsAll o link run
+laws_of o link run h w none = record {
+  asked = record {
+    each = h.asked;
+    written = all_written (bytes_sent link Initiator run) (unwritten o link Initiator run) (output_due o link Initiator run) h.client w.client;
+    resent = h.resent;
+    none_left = none;
+  };
+  served = record { each = h.served; written = all_written (bytes_sent link Responder run) (unwritten o link Responder run) (output_due o link Responder run) h.server w.server };
+  accepts = h.accepts;
+}

@@ -1,8 +1,7 @@
--- After each line of a script no outcome is due on any link: all that are due are handed over.
+-- What each function of a drill leaves of the outcomes that are due on its link: none, if none was due before, and none after bytes went down.
 use Rattle.std.specs.Prelude.{not, ◌||◌, ◌&&◌, ◌-◌, slice_get, if◌then◌else◌}
 use Rattle.std.specs.List.{AllByRecursion, flat_map, filter, find, list_any}
-use Rattle.std.proofs.Common.{◌≡◌, ◌≢◌, ℕ, ◌+◌, ◌≤◌, cond, eqb, arith, zero, suc, Bool, true, false, List, [], ◌∷◌, ◌++◌, length, map, take, drop, Option, None, Some, Result, Ok, Err, refl, sym, ap, subst, ◌∙◌, append_assoc, append-nil, eqb-true}
-use Rattle.std.proofs.lemmas.Bool.{eq-eqb}
+use Rattle.std.proofs.Common.{◌≡◌, ◌≢◌, ℕ, ◌+◌, ◌≤◌, ◌<◌, cond, eqb, arith, zero, suc, Bool, true, false, List, [], ◌∷◌, ◌++◌, length, map, take, drop, Option, None, Some, Result, Ok, Err, refl, sym, ap, subst, ◌∙◌, append_assoc, append-nil, eqb-true}
 use Rattle.std.proofs.lemmas.Grind.{flat_map-append}
 use Rattle.nr_wire.specs.declared.hello.Side.{Side}
 use Rattle.nr_wire.specs.declared.hello.Side.TheVariants.{Initiator, Responder}
@@ -21,48 +20,40 @@ use Rattle.nr_reduce.specs.declared.mark.Told.TheVariants.{Granted}
 use Rattle.nr_reduce.specs.declared.mark.Told.TheVariants as told
 use Rattle.nr_reduce.specs.declared.mark.LinkParameters.{LinkParameters}
 use Rattle.nr_reduce.specs.AtEachMark.{AtEachMark}
-use Rattle.nr_reduce.specs.Opening.{IsOpened, IsFirstLink}
+use Rattle.nr_reduce.specs.Opening.{IsOpened}
 use Rattle.nr_rpc.specs.Credential.{CanWriteCred}
-use Rattle.nr_reduce.specs.History.{AcceptedCall, CompletedCall, accepted_as, accepted_at, accepted_calls, completed_at, completed_calls, bytes_received, abandons, is_abandoned, is_dropped}
+use Rattle.nr_reduce.specs.History.{AcceptedCall, CompletedCall, accepted_as, accepted_at, accepted_calls, completed_at, completed_calls, bytes_received, abandons, is_abandoned}
 use Rattle.nr_reduce.specs.OutcomesDue.{is_completed, outcomes_of_call, outcomes_due}
 use Rattle.nr_reduce.specs.Events.{RunEvent, events, events_at, if_own}
 use Rattle.nr_reduce.specs.Events.RunEvent.{FrameReceived, CallSubmitted, MemoryRevoked, CallExecuted, QueueWritten, ServerTold}
 use Rattle.nr_reduce.specs.EndRules.{EndState, next_end_state, next_end_state_by, next_end_state_in, end_state_after}
-use Rattle.nr_reduce.specs.ClientState.{ClientState, OutstandingCall, is_sent, WaitingCall, waiting_call as waiting_at, first_of}
+use Rattle.nr_reduce.specs.ClientState.{ClientState, OutstandingCall, is_sent}
 use Rattle.nr_reduce.specs.ClientMessages.{ReplyVerdict, reply_verdict}
 use Rattle.nr_reduce.specs.ClientMessages.ReplyVerdict.{EndsLink, GivesOutcome}
-use Rattle.nr_reduce.specs.Client.{client_rules, client_segment, client_end, client_state_after, outcomes_of, with_message, with_request, with_segment, outstanding_of, revoked_call, with_hello, due_with_response, xid_unless_waiting}
+use Rattle.nr_reduce.specs.Client.{client_rules, client_segment, client_end, client_state_after, outcomes_of, with_message, with_request, with_segment, outstanding_of, revoked_call, with_hello, due_with_response}
 use Rattle.nr_reduce.specs.ServerState.{ReadyCall}
-use Rattle.nr_reduce.specs.SubmitAnswer.{submit_answer_after, first_xid_or}
-use Rattle.nr_reduce.specs.Run.{client, server}
-use Rattle.nr_reduce.specs.Asked.{AskedMark, IsAll, revoked_bytes}
+use Rattle.nr_reduce.specs.SubmitAnswer.{submit_answer_after, next_sent_xid}
+use Rattle.nr_reduce.specs.Run.{client}
+use Rattle.nr_reduce.specs.Asked.{AskedMark, IsAll, IsResent, revoked_bytes}
+use Rattle.nr_reduce.proofs.Placing.{sent_after, submit_rises, revoked_first}
 use Rattle.nr_reduce.proofs.Steps.{client_one}
 use Rattle.nr_reduce.proofs.Standing.{itself, one_more}
 use Rattle.nr_reduce.proofs.Waiting.{accepted_one}
 use Rattle.nr_laws.proofs.LinkInvariants.{AreAtMost}
 use Rattle.nr_laws.proofs.DistinctKeys.{any_append, or_left_lem, or_right_lem, below_more, below_append, below_kept}
 use Rattle.nr_laws.proofs.DoneCalls.{gives_by}
-use Rattle.nr_script.specs.declared.script.Line.{Line}
-use Rattle.nr_script.specs.declared.script.Line.TheVariants as lines
-use Rattle.nr_script.specs.Script.{ScriptLines, IsScript}
-use Rattle.nr_drill.specs.Drill.{link_of, SerialServer, Setting, Drill, Pipes, unwritten, after_output, after_all_output, settled, pipes_of, with_mark, after_submit, after_feeding, after_feeding_up, after_up, waiting_call, after_answer, after_execution, after_work, after_drop, after_raw, after_feeding_down, after_handing, after_done, after_dones, after_outcomes, after_down, answer_of_line, open_xid, after_giving_up, after_forget, after_taking_back, after_revoke, after_all_up, after_all_work, after_moves, after_round, after_opening, after_openings, start, links_of, cred_of, after_grant, GivenReply, client_of, standing_of, reply_given, after_resends, after_call}
-use Rattle.nr_drill.specs.Follows.{Drains, Follows, parameters_of, setting_of, opened_drill}
-use Rattle.nr_drill.specs.Lines.{IsClient, IsUnnumbered}
-use Rattle.nr_drill.proofs.Lawful.{IsLawful, answer_asked, lawful_submit, lawful_after_up, lawful_after_down, lawful_work, lawful_revoke}
-use Rattle.nr_drill.proofs.Followed.{no_event, apart, Extends, Holds, cred_at, round_holds, elsewhere, among_range, opened_by_script, openings_hold, opening_keeps, start_lawful, start_creds, opening_adds, submit_adds, up_adds, down_adds, work_adds, forget_adds, revoke_adds, drop_adds, raw_adds, moves_adds, grant_adds, all_fit, IsFit, AreFit, holds_by, with_cred_at, drain_holds, keeps_forget, keeps_drop, keeps_raw, keeps_grant, opened_first_links}
-use Rattle.nr_drill.proofs.FirstLinks.{opened_firsts}
-use Rattle.nr_drill.proofs.FirstLines.{made_first, all_name}
-use Rattle.nr_reduce.proofs.Unresumed.{none_waits}
+use Rattle.nr_drill.specs.Drill.{link_of, Setting, Drill, Pipes, unwritten, after_output, after_all_output, settled, pipes_of, with_mark, after_submit, after_feeding, after_feeding_up, after_up, waiting_call, after_answer, after_execution, after_work, after_drop, after_raw, after_feeding_down, after_handing, after_done, after_dones, after_outcomes, after_down, answer_of_line, open_xid, after_giving_up, after_forget, after_taking_back, after_revoke, after_all_up, after_opening, after_grant, GivenReply, client_of, standing_of, reply_given, after_resends, after_call}
+use Rattle.nr_drill.proofs.Lawful.{Keeps, IsNoFrame, NoFrames, if_none_lem, other_side_lem, no_length, IsGreeted, answer_asked}
+use Rattle.nr_drill.proofs.Followed.{no_event, apart}
 use Rattle.nr_reduce.specs.NumberedJournal.{Standing}
 use Rattle.nr_reduce.specs.NumberedJournal.Standing.{Old, Kept, New}
 use Rattle.nr_reduce.specs.Served.{last_frame_at}
-use Rattle.nr_drill.specs.Unnumbered.{AreFirst, first_line, FirstMakes, FirstMakeAll}
 
--- ===== the xids of outcomes are below the one that is given next
+-- ===== the xids of outcomes are below the one that is sent next
 
 pub record XidsBelow (o : LinkParameters) (k : ClientState) : Type 0 where
-  pub waiting : AreAtMost (λ (c : OutstandingCall). c.xid + 1) k.next_xid k.outstanding
-  pub brought : AreAtMost (λ (c : CompletedCall). c.xid + 1) k.next_xid k.outcomes
+  pub waiting : AreAtMost (λ (c : OutstandingCall). c.xid + 1) (next_sent_xid k) k.outstanding
+  pub brought : AreAtMost (λ (c : CompletedCall). c.xid + 1) (next_sent_xid k) k.outcomes
 
 found_below : (n : ℕ) (p : OutstandingCall → Bool) (os : List OutstandingCall) (c : OutstandingCall) → find p os ≡ Some c → AreAtMost (λ (c : OutstandingCall). c.xid + 1) n os → c.xid + 1 ≤ n
 found_below n p [] c e h = absurd cc
@@ -85,8 +76,8 @@ given_below n k place m (GivesOutcome xid (Some outcome)) e h =
 message_below : (o : LinkParameters) (k : ClientState) (place : ℕ) (m : Option (List ℕ)) → XidsBelow o k → XidsBelow o (with_message k place m)
 message_below o k place None h = h
 message_below o k place (Some m) h = record {
-  waiting = below_kept (λ (c : OutstandingCall). c.xid + 1) k.next_xid (λ c. not (eqb c.xid (word_at 0 m))) k.outstanding h.waiting;
-  brought = below_append (λ (c : CompletedCall). c.xid + 1) k.next_xid k.outcomes (outcomes_of (reply_verdict k place m)) h.brought (given_below k.next_xid k place m (reply_verdict k place m) refl h.waiting);
+  waiting = below_kept (λ (c : OutstandingCall). c.xid + 1) (next_sent_xid k) (λ c. not (eqb c.xid (word_at 0 m))) k.outstanding h.waiting;
+  brought = below_append (λ (c : CompletedCall). c.xid + 1) (next_sent_xid k) k.outcomes (outcomes_of (reply_verdict k place m)) h.brought (given_below (next_sent_xid k) k place m (reply_verdict k place m) refl h.waiting);
 }
 
 request_below : (o : LinkParameters) (k : ClientState) (due : ℕ) (q : Option ReadRequest) → XidsBelow o k → XidsBelow o (with_request k due q)
@@ -111,100 +102,101 @@ revoked_xid xid c = by (eqb c.xid xid)
     by true = refl
     by false = refl
 
--- a call that is submitted has the next xid, and none waits to be sent again
-abbrev IsFresh : LinkParameters → ClientState → RunEvent → Type 0
-IsFresh o k (FrameReceived f) = Unit {0}
-IsFresh o k (CallSubmitted place a) = (a.xid ≡ k.next_xid) × (k.waiting ≡ [])
-IsFresh o k (MemoryRevoked place xid) = Unit {0}
-IsFresh o k (CallExecuted call) = Unit {0}
-IsFresh o k (QueueWritten taken) = Unit {0}
-IsFresh o k (ServerTold what) = Unit {0}
+-- a call that is submitted is the one to be sent next
+abbrev IsNext : LinkParameters → ClientState → RunEvent → Type 0
+IsNext o k (FrameReceived f) = Unit {0}
+IsNext o k (CallSubmitted place a) = (a.xid ≡ next_sent_xid k) × IsResent k.has_hello k.next_xid k.waiting a.call a.form
+IsNext o k (MemoryRevoked place xid) = Unit {0}
+IsNext o k (CallExecuted call) = Unit {0}
+IsNext o k (QueueWritten taken) = Unit {0}
+IsNext o k (ServerTold what) = Unit {0}
 
-after_below : (o : LinkParameters) (k : ClientState) (e : RunEvent) → IsFresh o k e → XidsBelow o k → XidsBelow o (client_state_after o k e)
+after_below : (o : LinkParameters) (k : ClientState) (e : RunEvent) → IsNext o k e → XidsBelow o k → XidsBelow o (client_state_after o k e)
 unfolding client_state_after
-after_below o k (FrameReceived f) fresh h = by (is_hello f)
+after_below o k (FrameReceived f) next h = by (is_hello f)
   where
     by : (b : Bool) → XidsBelow o (cond b (with_hello o k f) (with_segment k f (client_segment k f)))
     by true = record { waiting = h.waiting; brought = h.brought }
     by false = segment_below o k f (client_segment k f) h
-after_below o k (CallSubmitted place a) fresh h =
-    let more : k.next_xid ≤ k.next_xid + 1 = omega arith in
-    let is = fresh.0 in
-    let next : k.next_xid + 1 ≡ xid_unless_waiting (waiting_at k a.xid) k.next_xid = ap (λ (ws : List WaitingCall). xid_unless_waiting (first_of ws a.xid) k.next_xid) (sym fresh.1) in
+after_below o k (CallSubmitted place a) next h =
+    let is = next.0 in
+    let rises : a.xid < sent_after a.xid k.next_xid k.waiting = submit_rises k.has_hello a.xid k.next_xid k.waiting a.call a.form is next.1 in
+    let more : next_sent_xid k ≤ sent_after a.xid k.next_xid k.waiting = omega (arith, is, rises) in
     record {
-      waiting = subst (λ (n : ℕ). AreAtMost (λ (c : OutstandingCall). c.xid + 1) n (k.outstanding ++ outstanding_of k a ∷ [])) next
-          (below_append (λ (c : OutstandingCall). c.xid + 1) (k.next_xid + 1) k.outstanding (outstanding_of k a ∷ [])
-          (below_more (λ (c : OutstandingCall). c.xid + 1) k.next_xid (k.next_xid + 1) k.outstanding more h.waiting) (omega (arith, is), tt));
-      brought = subst (λ (n : ℕ). AreAtMost (λ (c : CompletedCall). c.xid + 1) n k.outcomes) next
-          (below_more (λ (c : CompletedCall). c.xid + 1) k.next_xid (k.next_xid + 1) k.outcomes more h.brought);
+      waiting = below_append (λ (c : OutstandingCall). c.xid + 1) (sent_after a.xid k.next_xid k.waiting) k.outstanding (outstanding_of k a ∷ [])
+          (below_more (λ (c : OutstandingCall). c.xid + 1) (next_sent_xid k) (sent_after a.xid k.next_xid k.waiting) k.outstanding more h.waiting) (omega (arith, rises), tt);
+      brought = below_more (λ (c : CompletedCall). c.xid + 1) (next_sent_xid k) (sent_after a.xid k.next_xid k.waiting) k.outcomes more h.brought;
     }
-after_below o k (MemoryRevoked place xid) fresh h = record { waiting = same_xids k.next_xid (revoked_call xid) k.outstanding (revoked_xid xid) h.waiting; brought = h.brought }
-after_below o k (CallExecuted call) fresh h = h
-after_below o k (QueueWritten taken) fresh h = record { waiting = h.waiting; brought = h.brought }
-after_below o k (ServerTold what) fresh h = h
+after_below o k (MemoryRevoked place xid) next h =
+    let same = sym (revoked_first xid k.next_xid k.waiting) in
+    record {
+      waiting = subst (λ (n : ℕ). AreAtMost (λ (c : OutstandingCall). c.xid + 1) n (map (revoked_call xid) k.outstanding)) same (same_xids (next_sent_xid k) (revoked_call xid) k.outstanding (revoked_xid xid) h.waiting);
+      brought = subst (λ (n : ℕ). AreAtMost (λ (c : CompletedCall). c.xid + 1) n k.outcomes) same h.brought;
+    }
+after_below o k (CallExecuted call) next h = h
+after_below o k (QueueWritten taken) next h = record { waiting = h.waiting; brought = h.brought }
+after_below o k (ServerTold what) next h = h
 
-next_below : (o : LinkParameters) (k : ClientState) (ended : Option End) (e : RunEvent) → IsFresh o k e → XidsBelow o k → XidsBelow o (next_end_state_in (client_rules o) k e ended).state
-next_below o k (Some end) e fresh h = h
-next_below o k None e fresh h = by (client_end k e)
+next_below : (o : LinkParameters) (k : ClientState) (ended : Option End) (e : RunEvent) → IsNext o k e → XidsBelow o k → XidsBelow o (next_end_state_in (client_rules o) k e ended).state
+next_below o k (Some end) e next h = h
+next_below o k None e next h = by (client_end k e)
   where
     by : (why : Option End) → XidsBelow o (next_end_state_by (client_rules o) k e why).state
-    by None = after_below o k e fresh h
+    by None = after_below o k e next h
     by (Some end) = h
 
-abbrev AreFresh : LinkParameters → EndState ClientState → List RunEvent → Type 0
-AreFresh o r [] = Unit {0}
-AreFresh o r (e ∷ es) = IsFresh o r.state e × AreFresh o (next_end_state (client_rules o) r e) es
+abbrev AreNext : LinkParameters → EndState ClientState → List RunEvent → Type 0
+AreNext o r [] = Unit {0}
+AreNext o r (e ∷ es) = IsNext o r.state e × AreNext o (next_end_state (client_rules o) r e) es
 
-all_below : (o : LinkParameters) (r : EndState ClientState) (es : List RunEvent) → AreFresh o r es → XidsBelow o r.state → XidsBelow o (end_state_after (client_rules o) r es).state
-all_below o r [] fresh h = h
-all_below o r (e ∷ es) fresh h = all_below o (next_end_state (client_rules o) r e) es fresh.1 (next_below o r.state r.ended e fresh.0 h)
+all_below : (o : LinkParameters) (r : EndState ClientState) (es : List RunEvent) → AreNext o r es → XidsBelow o r.state → XidsBelow o (end_state_after (client_rules o) r es).state
+all_below o r [] next h = h
+all_below o r (e ∷ es) next h = all_below o (next_end_state (client_rules o) r e) es next.1 (next_below o r.state r.ended e next.0 h)
 
-fresh_frames : (o : LinkParameters) (r : EndState ClientState) (fs : List Frame) → AreFresh o r (map FrameReceived fs)
-fresh_frames o r [] = tt
-fresh_frames o r (f ∷ fs) = (tt, fresh_frames o (next_end_state (client_rules o) r (FrameReceived f)) fs)
+next_frames : (o : LinkParameters) (r : EndState ClientState) (fs : List Frame) → AreNext o r (map FrameReceived fs)
+next_frames o r [] = tt
+next_frames o r (f ∷ fs) = (tt, next_frames o (next_end_state (client_rules o) r (FrameReceived f)) fs)
 
-fresh_if : (o : LinkParameters) (r : EndState ClientState) (b : Bool) (es : List RunEvent) → AreFresh o r es → AreFresh o r (if_own b es)
-fresh_if o r true es h = h
-fresh_if o r false es h = tt
+next_if : (o : LinkParameters) (r : EndState ClientState) (b : Bool) (es : List RunEvent) → AreNext o r es → AreNext o r (if_own b es)
+next_if o r true es h = h
+next_if o r false es h = tt
 
-fresh_mark : (o : LinkParameters) (link : ℕ) (run : List Mark) (mark : Mark) → IsFirstLink o → AskedMark IsAll o link run mark → AreFresh o (client o link run) (events_at link Initiator run mark)
-fresh_mark o link run (marks.Submit l call form (submissions.Accepted xid)) first h = by (eqb l link) refl
+next_mark : (o : LinkParameters) (link : ℕ) (run : List Mark) (mark : Mark) → AskedMark IsAll o link run mark → AreNext o (client o link run) (events_at link Initiator run mark)
+next_mark o link run (marks.Submit l call form (submissions.Accepted xid)) h = by (eqb l link) refl
   where
     a : AcceptedCall
     a = record { xid = xid; call = call; form = form }
 
-    by : (b : Bool) → eqb l link ≡ b → AreFresh o (client o link run) (if_own (b && true) (CallSubmitted (length (bytes_received link Initiator run)) a ∷ []))
-    by true is =
-        let none = none_waits o link run first.resumed in
-        (((h (eqb-true l link is)).next ∙ ap (λ (ws : List WaitingCall). first_xid_or (client o link run).state.next_xid ws) none, none), tt)
+    by : (b : Bool) → eqb l link ≡ b → AreNext o (client o link run) (if_own (b && true) (CallSubmitted (length (bytes_received link Initiator run)) a ∷ []))
+    by true is = (let own = h (eqb-true l link is) in ((own.next, own.resent), tt))
     by false is = tt
-fresh_mark o link run (marks.Submit l call form (submissions.Refused why)) first h = tt
-fresh_mark o link run (marks.Submit l call form submissions.Dropped) first h = tt
-fresh_mark o link run (marks.Wrote l side bytes) first h = fresh_if o (client o link run) _ (QueueWritten (length bytes) ∷ []) (tt, tt)
-fresh_mark o link run (marks.Fed l side bytes) first h = fresh_if o (client o link run) _ (map FrameReceived (frames_completed Responder (bytes_received link Initiator run) bytes)) (fresh_frames o (client o link run) _)
-fresh_mark o link run (marks.Execute l xid moment payload place reply) first h =
-    fresh_if o (client o link run) _ (CallExecuted (record { xid = xid; moment = moment; payload = payload; place = place; reply = reply }) ∷ []) (tt, tt)
-fresh_mark o link run (marks.Done l xid outcome) first h = tt
-fresh_mark o link run (marks.Lost l xid) first h = tt
-fresh_mark o link run (marks.Forget l xid) first h = tt
-fresh_mark o link run (marks.Revoke l xid bytes) first h = fresh_if o (client o link run) _ (MemoryRevoked (length (bytes_received link Initiator run)) xid ∷ []) (tt, tt)
-fresh_mark o link run (marks.Drop l) first h = tt
-fresh_mark o link run (marks.Told l what) first h = fresh_if o (client o link run) _ (ServerTold what ∷ []) (tt, tt)
+next_mark o link run (marks.Submit l call form (submissions.Refused why)) h = tt
+next_mark o link run (marks.Submit l call form submissions.Dropped) h = tt
+next_mark o link run (marks.Wrote l side bytes) h = next_if o (client o link run) _ (QueueWritten (length bytes) ∷ []) (tt, tt)
+next_mark o link run (marks.Fed l side bytes) h = next_if o (client o link run) _ (map FrameReceived (frames_completed Responder (bytes_received link Initiator run) bytes)) (next_frames o (client o link run) _)
+next_mark o link run (marks.Execute l xid moment payload place reply) h =
+    next_if o (client o link run) _ (CallExecuted (record { xid = xid; moment = moment; payload = payload; place = place; reply = reply }) ∷ []) (tt, tt)
+next_mark o link run (marks.Done l xid outcome) h = tt
+next_mark o link run (marks.Lost l xid) h = tt
+next_mark o link run (marks.Forget l xid) h = tt
+next_mark o link run (marks.Revoke l xid bytes) h = next_if o (client o link run) _ (MemoryRevoked (length (bytes_received link Initiator run)) xid ∷ []) (tt, tt)
+next_mark o link run (marks.Drop l) h = tt
+next_mark o link run (marks.Told l what) h = next_if o (client o link run) _ (ServerTold what ∷ []) (tt, tt)
 
-below_from : (o : LinkParameters) (link : ℕ) (before run : List Mark) → IsFirstLink o → XidsBelow o (client o link before).state → AtEachMark (AskedMark IsAll o link) before run → XidsBelow o (client o link (before ++ run)).state
-below_from o link before [] first h asked = subst (λ (r : List Mark). XidsBelow o (client o link r).state) (sym (append-nil before)) h
-below_from o link before (mark ∷ run) first h asked =
+below_from : (o : LinkParameters) (link : ℕ) (before run : List Mark) → XidsBelow o (client o link before).state → AtEachMark (AskedMark IsAll o link) before run → XidsBelow o (client o link (before ++ run)).state
+below_from o link before [] h asked = subst (λ (r : List Mark). XidsBelow o (client o link r).state) (sym (append-nil before)) h
+below_from o link before (mark ∷ run) h asked =
     let next : XidsBelow o (client o link (before ++ mark ∷ [])).state =
     subst (λ (r : EndState ClientState). XidsBelow o r.state) (sym (client_one o link before mark))
-    (all_below o (client o link before) (events_at link Initiator before mark) (fresh_mark o link before mark first asked.0) h) in
-    subst (λ (r : List Mark). XidsBelow o (client o link r).state) (append_assoc before (mark ∷ []) run) (below_from o link (before ++ mark ∷ []) run first next asked.1)
+    (all_below o (client o link before) (events_at link Initiator before mark) (next_mark o link before mark asked.0) h) in
+    subst (λ (r : List Mark). XidsBelow o (client o link r).state) (append_assoc before (mark ∷ []) run) (below_from o link (before ++ mark ∷ []) run next asked.1)
 
 below_first : (o : LinkParameters) (link : ℕ) → XidsBelow o (client o link []).state
 unfolding client events
 below_first o link = record { waiting = tt; brought = tt }
 
-pub xids_below : (o : LinkParameters) (link : ℕ) (run : List Mark) → IsFirstLink o → AtEachMark (AskedMark IsAll o link) [] run → XidsBelow o (client o link run).state
-xids_below o link run first asked = below_from o link [] run first (below_first o link) asked
+pub xids_below : (o : LinkParameters) (link : ℕ) (run : List Mark) → AtEachMark (AskedMark IsAll o link) [] run → XidsBelow o (client o link run).state
+xids_below o link run asked = below_from o link [] run (below_first o link) asked
 
 -- ===== one mark more
 
@@ -222,15 +214,6 @@ due_is : (o : LinkParameters) (link : ℕ) (run : List Mark) → outcomes_due o 
 unfolding outcomes_due
 due_is o link run = refl
 
--- an event that brings no outcome
-abbrev IsNoFrame : RunEvent → Type 0
-IsNoFrame (FrameReceived f) = ⊥
-IsNoFrame (CallSubmitted place a) = Unit {0}
-IsNoFrame (MemoryRevoked place xid) = Unit {0}
-IsNoFrame (CallExecuted call) = Unit {0}
-IsNoFrame (QueueWritten taken) = Unit {0}
-IsNoFrame (ServerTold what) = Unit {0}
-
 after_same : (o : LinkParameters) (k : ClientState) (e : RunEvent) → IsNoFrame e → (client_state_after o k e).outcomes ≡ k.outcomes
 unfolding client_state_after
 after_same o k (FrameReceived f) h = absurd h
@@ -247,9 +230,6 @@ next_same o k None e h = by (client_end k e)
     by : (why : Option End) → (next_end_state_by (client_rules o) k e why).state.outcomes ≡ k.outcomes
     by None = after_same o k e h
     by (Some end) = refl
-
-abbrev NoFrames : List RunEvent → Type 0
-NoFrames es = AllByRecursion IsNoFrame es
 
 all_same : (o : LinkParameters) (r : EndState ClientState) (es : List RunEvent) → NoFrames es → (end_state_after (client_rules o) r es).state.outcomes ≡ r.state.outcomes
 all_same o r [] h = refl
@@ -337,7 +317,7 @@ elsewhere_brings o link run mark ne = record {
     not_accepted (marks.Drop l) ne = refl
     not_accepted (marks.Told l what) ne = refl
 
-none_elsewhere : (o : LinkParameters) (link other : ℕ) (old added : List Mark) → other ≢ link → AllByRecursion (λ (mark : Mark). link_of mark ≡ other) added → NoneDue o link old → NoneDue o link (old ++ added)
+pub none_elsewhere : (o : LinkParameters) (link other : ℕ) (old added : List Mark) → other ≢ link → AllByRecursion (λ (mark : Mark). link_of mark ≡ other) added → NoneDue o link old → NoneDue o link (old ++ added)
 none_elsewhere o link other old [] ne own h = subst (NoneDue o link) (sym (append-nil old)) h
 none_elsewhere o link other old (mark ∷ added) ne own h =
     subst (NoneDue o link) (append_assoc old (mark ∷ []) added)
@@ -348,20 +328,12 @@ none_elsewhere o link other old (mark ∷ added) ne own h =
 abbrev HandsAll : Setting → ℕ → Drill → Type 0
 HandsAll s link d = NoneDue (s.opened link) link d.marks
 
-if_none_lem : (b : Bool) (es : List RunEvent) → NoFrames es → NoFrames (if_own b es)
-if_none_lem true es h = h
-if_none_lem false es h = tt
-
-other_side_lem : (b : Bool) (es : List RunEvent) → NoFrames (if_own (b && false) es)
-other_side_lem true es = tt
-other_side_lem false es = tt
-
-output_hands : (s : Setting) (link : ℕ) (side : Side) (bytes : List ℕ) (d : Drill) → HandsAll s link d → HandsAll s link (after_output link side bytes d)
+pub output_hands : (s : Setting) (link : ℕ) (side : Side) (bytes : List ℕ) (d : Drill) → HandsAll s link d → HandsAll s link (after_output link side bytes d)
 output_hands s link side [] d h = h
 output_hands s link side (b ∷ bytes) d h =
     none_then (s.opened link) link d.marks (marks.Wrote link side (b ∷ bytes)) (record { none = if_none_lem _ (QueueWritten (length (b ∷ bytes)) ∷ []) (tt, tt); fresh = refl }) h
 
-settled_hands : (s : Setting) (link : ℕ) (d : Drill) → HandsAll s link d → HandsAll s link (settled s link d)
+pub settled_hands : (s : Setting) (link : ℕ) (d : Drill) → HandsAll s link d → HandsAll s link (settled s link d)
 unfolding settled
 settled_hands s link d h =
     let mid = after_all_output s link Initiator d in
@@ -372,14 +344,14 @@ fed_hands s link [] rest d h = h
 fed_hands s link (b ∷ bytes) rest d h =
     none_then (s.opened link) link d.marks (marks.Fed link Responder (b ∷ bytes)) (record { none = other_side_lem (eqb link link) _; fresh = refl }) h
 
-up_hands : (s : Setting) (link n : ℕ) (d : Drill) → HandsAll s link d → HandsAll s link (after_up s link n d)
+pub up_hands : (s : Setting) (link n : ℕ) (d : Drill) → HandsAll s link d → HandsAll s link (after_up s link n d)
 unfolding after_up
 up_hands s link n d h =
     let pipes = pipes_of link d in
     settled_hands s link (after_feeding_up link n d) (fed_hands s link (take n pipes.up) (record pipes { up = drop n pipes.up }) d h)
 
 -- each that is handed over lowers the number of those that are due
-length_kept : {X : Type 0} (p : X → Bool) (xs : List X) → length (filter p xs) ≤ length xs
+pub length_kept : {X : Type 0} (p : X → Bool) (xs : List X) → length (filter p xs) ≤ length xs
 length_kept p [] = omega arith
 length_kept {X = X} p (x ∷ xs) = by (p x) (length_kept p xs)
   where
@@ -414,17 +386,13 @@ handing_hands s link n (c ∷ due) d e le =
     let few = fewer_behind (is_kept link after) c due (not_kept link d.marks c) in
     subst (λ (cs : List CompletedCall). length cs ≤ n) (sym is) (omega (arith, few, le))
 
-no_length : {X : Type 0} (xs : List X) → length xs ≤ 0 → xs ≡ []
-no_length [] le = refl
-no_length (x ∷ xs) le = absurd (omega (arith, le))
-
 dones_hand : (s : Setting) (link n : ℕ) (d : Drill) → length (outcomes_due (s.opened link) link d.marks) ≤ n → HandsAll s link (after_dones s link n d)
 unfolding after_done
 dones_hand s link zero d le = no_length (outcomes_due (s.opened link) link d.marks) le
 dones_hand s link (suc n) d le = dones_hand s link n (after_done s link d) (handing_hands s link n (outcomes_due (s.opened link) link d.marks) d refl le)
 
 -- whatever was due before it
-down_hands : (s : Setting) (link n : ℕ) (d : Drill) → HandsAll s link (after_down s link n d)
+pub down_hands : (s : Setting) (link n : ℕ) (d : Drill) → HandsAll s link (after_down s link n d)
 unfolding after_down after_outcomes
 down_hands s link n d =
     let sent = after_resends s link (after_feeding_down link n d) in
@@ -447,7 +415,7 @@ execution_hands : (s : Setting) (link : ℕ) (call : Option ReadyCall) (d : Dril
 execution_hands s link None d h = h
 execution_hands s link (Some call) d h = call_hands s link call (standing_of s link d call) (reply_given s link d call) d h
 
-work_hands : (s : Setting) (link : ℕ) (d : Drill) → HandsAll s link d → HandsAll s link (after_work s link d)
+pub work_hands : (s : Setting) (link : ℕ) (d : Drill) → HandsAll s link d → HandsAll s link (after_work s link d)
 unfolding after_work
 work_hands s link d h = execution_hands s link (waiting_call s link d.marks) d h
 
@@ -455,7 +423,7 @@ giving_up_hands : (s : Setting) (link : ℕ) (xid : Option ℕ) (d : Drill) → 
 giving_up_hands s link None d h = h
 giving_up_hands s link (Some xid) d h = none_then (s.opened link) link d.marks (marks.Forget link xid) (record { none = tt; fresh = refl }) h
 
-forget_hands : (s : Setting) (link number : ℕ) (d : Drill) → HandsAll s link d → HandsAll s link (after_forget s link number d)
+pub forget_hands : (s : Setting) (link number : ℕ) (d : Drill) → HandsAll s link d → HandsAll s link (after_forget s link number d)
 unfolding after_forget
 forget_hands s link number d h = giving_up_hands s link (open_xid s link d.marks (answer_of_line s (client_of s link) number d.marks)) d h
 
@@ -465,26 +433,22 @@ taking_back_hands s link (Some xid) d h =
     let mark = marks.Revoke link xid (revoked_bytes (s.opened link) link d.marks xid) in
     settled_hands s link (with_mark mark d) (none_then (s.opened link) link d.marks mark (record { none = if_none_lem _ (MemoryRevoked (length (bytes_received link Initiator d.marks)) xid ∷ []) (tt, tt); fresh = refl }) h)
 
-revoke_hands : (s : Setting) (link number : ℕ) (d : Drill) → HandsAll s link d → HandsAll s link (after_revoke s link number d)
+pub revoke_hands : (s : Setting) (link number : ℕ) (d : Drill) → HandsAll s link d → HandsAll s link (after_revoke s link number d)
 unfolding after_revoke
 revoke_hands s link number d h = taking_back_hands s link (open_xid s link d.marks (answer_of_line s (client_of s link) number d.marks)) d h
 
-drop_hands : (s : Setting) (link : ℕ) (d : Drill) → HandsAll s link d → HandsAll s link (after_drop link d)
+pub drop_hands : (s : Setting) (link : ℕ) (d : Drill) → HandsAll s link d → HandsAll s link (after_drop link d)
 drop_hands s link d h = none_then (s.opened link) link d.marks (marks.Drop link) (record { none = tt; fresh = refl }) h
 
-grant_hands : (s : Setting) (link credits : ℕ) (d : Drill) → HandsAll s link d → HandsAll s link (after_grant link credits d)
+pub grant_hands : (s : Setting) (link credits : ℕ) (d : Drill) → HandsAll s link d → HandsAll s link (after_grant link credits d)
 grant_hands s link credits d h =
     none_then (s.opened link) link d.marks (marks.Told link (Granted credits)) (record { none = other_side_lem (eqb link link) _; fresh = refl }) h
 
-raw_hands : (s : Setting) (link : ℕ) (side : Side) (bytes : List ℕ) (dropped : Bool) (d : Drill) → HandsAll s link d → HandsAll s link (after_raw link side bytes dropped d)
+pub raw_hands : (s : Setting) (link : ℕ) (side : Side) (bytes : List ℕ) (dropped : Bool) (d : Drill) → HandsAll s link d → HandsAll s link (after_raw link side bytes dropped d)
 raw_hands s link side bytes true d h = h
 raw_hands s link side bytes false d h = h
 
-moves_hands : (s : Setting) (link : ℕ) (d : Drill) → HandsAll s link (after_moves s link d)
-unfolding after_moves
-moves_hands s link d = (let two = after_all_work s link (after_all_up s link d) in down_hands s link (length (pipes_of link two).down) two)
-
-opening_hands : (s : Setting) (link : ℕ) (d : Drill) → HandsAll s link (after_opening s link d)
+pub opening_hands : (s : Setting) (link : ℕ) (d : Drill) → HandsAll s link (after_opening s link d)
 unfolding after_opening
 opening_hands s link d = (let two = after_all_up s link (settled s link d) in down_hands s link (length (pipes_of link two).down) two)
 
@@ -498,215 +462,37 @@ none_of_lem n xid (c ∷ outs) le h = by (eqb c.xid xid) refl (none_of_lem n xid
     by true is rest = absurd (let a = h.0 in let b = eqb-true c.xid xid is in omega (arith, a, b, le))
     by false is rest = rest
 
-submit_brings : (o : LinkParameters) (link : ℕ) (run : List Mark) (call : Call) (form : Form) (answer : Submission) → IsFirstLink o → XidsBelow o (client o link run).state →
+submit_brings : (o : LinkParameters) (link : ℕ) (run : List Mark) (call : Call) (form : Form) (answer : Submission) → XidsBelow o (client o link run).state →
     AskedMark IsAll o link run (marks.Submit link call form answer) → BringsNone o link run (marks.Submit link call form answer)
-submit_brings o link run call form (submissions.Accepted xid) first below asked =
+submit_brings o link run call form (submissions.Accepted xid) below asked =
     let outs = (client o link run).state.outcomes in
     let a : AcceptedCall = record { xid = xid; call = call; form = form } in
-    let next = (asked refl).next ∙ ap (λ (ws : List WaitingCall). first_xid_or (client o link run).state.next_xid ws) (none_waits o link run first.resumed) in
+    let next = (asked refl).next in
     record {
       none = if_none_lem _ (CallSubmitted (length (bytes_received link Initiator run)) a ∷ []) (tt, tt);
       fresh = ap (λ (b : Bool). flat_map (outcomes_of_call outs) (if b then a ∷ [] else [])) (itself link) ∙ append-nil (outcomes_of_call outs a)
-          ∙ none_of_lem (client o link run).state.next_xid xid outs (omega (arith, next)) below.brought;
+          ∙ none_of_lem (next_sent_xid (client o link run).state) xid outs (omega (arith, next)) below.brought;
     }
-submit_brings o link run call form (submissions.Refused why) first below asked = record { none = tt; fresh = by (eqb link link) }
+submit_brings o link run call form (submissions.Refused why) below asked = record { none = tt; fresh = by (eqb link link) }
   where
     by : (b : Bool) → flat_map (outcomes_of_call (client o link run).state.outcomes) (cond {A = List AcceptedCall} b [] []) ≡ []
     by true = refl
     by false = refl
-submit_brings o link run call form submissions.Dropped first below asked = record { none = tt; fresh = by (eqb link link) }
+submit_brings o link run call form submissions.Dropped below asked = record { none = tt; fresh = by (eqb link link) }
   where
     by : (b : Bool) → flat_map (outcomes_of_call (client o link run).state.outcomes) (cond {A = List AcceptedCall} b [] []) ≡ []
     by true = refl
     by false = refl
 
-submit_hands : (s : Setting) (link : ℕ) (call : Call) (form : Form) (d : Drill) → IsFirstLink (s.opened link) → IsOpened (s.opened link) → CanWriteCred call.cred → IsLawful (s.opened link) link d.marks → HandsAll s link d →
-    HandsAll s link (after_submit s link call form d)
+pub submit_hands : (s : Setting) (link : ℕ) (call : Call) (form : Form) (d : Drill) → IsOpened (s.opened link) → IsGreeted (s.opened link) link d.marks → CanWriteCred call.cred → Keeps s link d → HandsAll s link d → HandsAll s link (after_submit s link call form d)
 unfolding after_submit
-submit_hands s link call form d first numbers writable lawful h =
+submit_hands s link call form d numbers greeted writable keeps h =
     let o = s.opened link in
     let answer = submit_answer_after o link d.marks call form in
     let mark = marks.Submit link call form answer in
     settled_hands s link (with_mark mark d)
-    (none_then o link d.marks mark (submit_brings o link d.marks call form answer first (xids_below o link d.marks first lawful.asked) (answer_asked o link d.marks call form answer first numbers writable lawful refl)) h)
+    (none_then o link d.marks mark (submit_brings o link d.marks call form answer (xids_below o link d.marks keeps.0.asked) (answer_asked o link d.marks call form answer numbers greeted keeps.2 writable keeps.0 refl)) h)
 
--- ===== every link
-
--- What a function of a drill does on its link, and it changes nothing of others.
-record Hands (s : Setting) (link : ℕ) (old new : Drill) : Type 0 where
-  own : IsLawful (s.opened link) link old.marks → HandsAll s link old → HandsAll s link new
-  extends : Extends link old new
-
-hands_by : (s : Setting) (acted link : ℕ) (old new : Drill) → Hands s acted old new → IsLawful (s.opened link) link old.marks → HandsAll s link old → HandsAll s link new
-hands_by s acted link old new a lawful h = by (eqb acted link) refl
-  where
-    by : (b : Bool) → eqb acted link ≡ b → HandsAll s link new
-    by true is =
-        let same = eqb-true acted link is in
-        subst (λ (l : ℕ). HandsAll s l new) same
-        (a.own (subst (λ (l : ℕ). IsLawful (s.opened l) l old.marks) (sym same) lawful) (subst (λ (l : ℕ). HandsAll s l old) (sym same) h))
-    by false is =
-        subst (NoneDue (s.opened link) link) (sym a.extends.marks.is)
-        (none_elsewhere (s.opened link) link acted old.marks a.extends.marks.added (λ same. differs (sym is ∙ eq-eqb acted link same)) a.extends.marks.own h)
-      where
-        differs : false ≡ true → ⊥
-        differs e = absurd cc
-
-line_hands : (s : Setting) (link : ℕ) (line : Line) (d : Drill) → AreFit s → Holds s link d → HandsAll s link d → HandsAll s link (first_line s line d)
-line_hands s link (lines.Cred client cred) d fit k h = h
-line_hands s link (lines.Call client form prog vers proc args) d fit k h =
-    let call : Call = record { prog = prog; vers = vers; proc = proc; cred = cred_of client d; args = args } in
-    hands_by s client link d (after_submit s client call form d) (record {
-      own = λ l e. submit_hands s client call form d (fit.first.on client) (fit.opened client) (cred_at d.creds (client - 1) k.creds) l e;
-      extends = submit_adds s client call form d;
-    }) k.keeps.0 h
-line_hands s link (lines.Up client most) d fit k h =
-    hands_by s client link d (after_up s client most d) (record { own = λ l e. up_hands s client most d e; extends = up_adds s client most d }) k.keeps.0 h
-line_hands s link (lines.Down client most) d fit k h =
-    hands_by s client link d (after_down s client most d) (record { own = λ l e. down_hands s client most d; extends = down_adds s client most d }) k.keeps.0 h
-line_hands s link (lines.Work client) d fit k h =
-    hands_by s client link d (after_work s client d) (record { own = λ l e. work_hands s client d e; extends = work_adds s client d }) k.keeps.0 h
-line_hands s link (lines.Tick seconds) d fit k h = h
-line_hands s link (lines.Forget client number) d fit k h =
-    hands_by s client link d (after_forget s client number d) (record { own = λ l e. forget_hands s client number d e; extends = forget_adds s client number d }) k.keeps.0 h
-line_hands s link (lines.Revoke client number) d fit k h =
-    hands_by s client link d (after_revoke s client number d) (record { own = λ l e. revoke_hands s client number d e; extends = revoke_adds s client number d }) k.keeps.0 h
-line_hands s link (lines.Drop client) d fit k h =
-    hands_by s client link d (after_drop client d) (record { own = λ l e. drop_hands s client d e; extends = drop_adds client d }) k.keeps.0 h
-line_hands s link (lines.Rejoin client) d fit k h = h
-line_hands s link (lines.Raw client side bytes) d fit k h =
-    hands_by s client link d (after_raw client side bytes (is_dropped client d.marks) d)
-    (record { own = λ l e. raw_hands s client side bytes (is_dropped client d.marks) d e; extends = raw_adds client side bytes (is_dropped client d.marks) d }) k.keeps.0 h
-line_hands s link (lines.Grant client credits) d fit k h =
-    hands_by s client link d (after_grant client credits d) (record { own = λ l e. grant_hands s client credits d e; extends = grant_adds client credits d }) k.keeps.0 h
-line_hands s link lines.Drain d fit k h = h
-
-round_hands : (s : Setting) (link : ℕ) (links : List ℕ) (d : Drill) → AreFirst s → Holds s link d → HandsAll s link d → HandsAll s link (after_round s links d)
-round_hands s link [] d first k h = h
-round_hands s link (l ∷ links) d first k h =
-    round_hands s link links (after_moves s l d) first (round_holds s link (l ∷ []) d first k)
-    (hands_by s l link d (after_moves s l d) (record { own = λ own e. moves_hands s l d; extends = moves_adds s l d }) k.keeps.0 h)
-
-drain_hands : (s : Setting) (link : ℕ) (links : List ℕ) (rounds : ℕ) (old new : Drill) → Drains s links rounds old new → AreFirst s → Holds s link old → HandsAll s link old → HandsAll s link new
-drain_hands s link links zero old new drains first k h = subst (HandsAll s link) (sym drains.1) h
-drain_hands s link links (suc rounds) old new drains first k h =
-    drain_hands s link links rounds (after_round s links old) new drains.1 first (round_holds s link links old first k) (round_hands s link links old first k h)
-
--- each line leaves none due, a drain too
-pub line_hands_all : (s : Setting) (clients link : ℕ) (line : Line) (old new : Drill) → AreFit s → FirstMakes s clients line old new → Holds s link old → HandsAll s link old → HandsAll s link new
-line_hands_all s clients link (lines.Cred client cred) old new fit e k h = subst (HandsAll s link) (sym e) (line_hands s link (lines.Cred client cred) old fit k h)
-line_hands_all s clients link (lines.Call client form prog vers proc args) old new fit e k h = subst (HandsAll s link) (sym e) (line_hands s link (lines.Call client form prog vers proc args) old fit k h)
-line_hands_all s clients link (lines.Up client most) old new fit e k h = subst (HandsAll s link) (sym e) (line_hands s link (lines.Up client most) old fit k h)
-line_hands_all s clients link (lines.Down client most) old new fit e k h = subst (HandsAll s link) (sym e) (line_hands s link (lines.Down client most) old fit k h)
-line_hands_all s clients link (lines.Work client) old new fit e k h = subst (HandsAll s link) (sym e) (line_hands s link (lines.Work client) old fit k h)
-line_hands_all s clients link (lines.Tick seconds) old new fit e k h = subst (HandsAll s link) (sym e) (line_hands s link (lines.Tick seconds) old fit k h)
-line_hands_all s clients link (lines.Forget client number) old new fit e k h = subst (HandsAll s link) (sym e) (line_hands s link (lines.Forget client number) old fit k h)
-line_hands_all s clients link (lines.Revoke client number) old new fit e k h = subst (HandsAll s link) (sym e) (line_hands s link (lines.Revoke client number) old fit k h)
-line_hands_all s clients link (lines.Drop client) old new fit e k h = subst (HandsAll s link) (sym e) (line_hands s link (lines.Drop client) old fit k h)
-line_hands_all s clients link (lines.Rejoin client) old new fit e k h = subst (HandsAll s link) (sym e) (line_hands s link (lines.Rejoin client) old fit k h)
-line_hands_all s clients link (lines.Raw client side bytes) old new fit e k h = subst (HandsAll s link) (sym e) (line_hands s link (lines.Raw client side bytes) old fit k h)
-line_hands_all s clients link (lines.Grant client credits) old new fit e k h = subst (HandsAll s link) (sym e) (line_hands s link (lines.Grant client credits) old fit k h)
-line_hands_all s clients link lines.Drain old new fit e k h = drain_hands s link (links_of clients) e.0 old new e.1 fit.first k h
-
--- a line keeps the laws of a link
-line_holds_first : (s : Setting) (link : ℕ) (line : Line) (d : Drill) → AreFit s → IsFit s line → Holds s link d → Holds s link (first_line s line d)
-line_holds_first s link (lines.Cred client cred) d fit w h = record { keeps = h.keeps; creds = with_cred_at d.creds (client - 1) cred h.creds w.0 }
-line_holds_first s link (lines.Call client form prog vers proc args) d fit w h =
-    let call : Call = record { prog = prog; vers = vers; proc = proc; cred = cred_of client d; args = args } in
-    holds_by s client link d (after_submit s client call form d) (record {
-      own = λ k. lawful_submit s client call form d (fit.first.on client) (fit.opened client) (cred_at d.creds (client - 1) h.creds) k;
-      extends = submit_adds s client call form d;
-    }) h
-line_holds_first s link (lines.Up client most) d fit w h =
-    holds_by s client link d (after_up s client most d) (record { own = λ k. lawful_after_up s client most d k; extends = up_adds s client most d }) h
-line_holds_first s link (lines.Down client most) d fit w h =
-    holds_by s client link d (after_down s client most d) (record { own = λ k. lawful_after_down s client most d (fit.first.on client) k; extends = down_adds s client most d }) h
-line_holds_first s link (lines.Work client) d fit w h =
-    holds_by s client link d (after_work s client d) (record { own = λ k. lawful_work s client d k; extends = work_adds s client d }) h
-line_holds_first s link (lines.Tick seconds) d fit w h = record { keeps = h.keeps; creds = h.creds }
-line_holds_first s link (lines.Forget client number) d fit w h =
-    holds_by s client link d (after_forget s client number d) (record { own = λ k. keeps_forget s client number d fit.first k; extends = forget_adds s client number d }) h
-line_holds_first s link (lines.Revoke client number) d fit w h =
-    holds_by s client link d (after_revoke s client number d) (record { own = λ k. lawful_revoke s client number d fit.first k; extends = revoke_adds s client number d }) h
-line_holds_first s link (lines.Drop client) d fit w h =
-    holds_by s client link d (after_drop client d) (record { own = λ k. keeps_drop s client d k; extends = drop_adds client d }) h
-line_holds_first s link (lines.Rejoin client) d fit w h = h
-line_holds_first s link (lines.Raw client side bytes) d fit w h =
-    holds_by s client link d (after_raw client side bytes (is_dropped client d.marks) d)
-    (record { own = λ k. keeps_raw s client side bytes (is_dropped client d.marks) d k; extends = raw_adds client side bytes (is_dropped client d.marks) d }) h
-line_holds_first s link (lines.Grant client credits) d fit w h =
-    holds_by s client link d (after_grant client credits d) (record { own = λ k. keeps_grant s client credits d (w.1 client) k; extends = grant_adds client credits d }) h
-line_holds_first s link lines.Drain d fit w h = h
-
-line_holds_all : (s : Setting) (clients link : ℕ) (line : Line) (old new : Drill) → AreFit s → IsFit s line → FirstMakes s clients line old new → Holds s link old → Holds s link new
-line_holds_all s clients link (lines.Cred client cred) old new fit w e h = subst (Holds s link) (sym e) (line_holds_first s link (lines.Cred client cred) old fit w h)
-line_holds_all s clients link (lines.Call client form prog vers proc args) old new fit w e h = subst (Holds s link) (sym e) (line_holds_first s link (lines.Call client form prog vers proc args) old fit w h)
-line_holds_all s clients link (lines.Up client most) old new fit w e h = subst (Holds s link) (sym e) (line_holds_first s link (lines.Up client most) old fit w h)
-line_holds_all s clients link (lines.Down client most) old new fit w e h = subst (Holds s link) (sym e) (line_holds_first s link (lines.Down client most) old fit w h)
-line_holds_all s clients link (lines.Work client) old new fit w e h = subst (Holds s link) (sym e) (line_holds_first s link (lines.Work client) old fit w h)
-line_holds_all s clients link (lines.Tick seconds) old new fit w e h = subst (Holds s link) (sym e) (line_holds_first s link (lines.Tick seconds) old fit w h)
-line_holds_all s clients link (lines.Forget client number) old new fit w e h = subst (Holds s link) (sym e) (line_holds_first s link (lines.Forget client number) old fit w h)
-line_holds_all s clients link (lines.Revoke client number) old new fit w e h = subst (Holds s link) (sym e) (line_holds_first s link (lines.Revoke client number) old fit w h)
-line_holds_all s clients link (lines.Drop client) old new fit w e h = subst (Holds s link) (sym e) (line_holds_first s link (lines.Drop client) old fit w h)
-line_holds_all s clients link (lines.Rejoin client) old new fit w e h = subst (Holds s link) (sym e) (line_holds_first s link (lines.Rejoin client) old fit w h)
-line_holds_all s clients link (lines.Raw client side bytes) old new fit w e h = subst (Holds s link) (sym e) (line_holds_first s link (lines.Raw client side bytes) old fit w h)
-line_holds_all s clients link (lines.Grant client credits) old new fit w e h = subst (Holds s link) (sym e) (line_holds_first s link (lines.Grant client credits) old fit w h)
-line_holds_all s clients link lines.Drain old new fit w e h = drain_holds s link (links_of clients) e.0 old new e.1 fit.first h
-
-lines_hand : (s : Setting) (clients link : ℕ) (all : List Line) (old new : Drill) → AreFit s → AllByRecursion (IsFit s) all → FirstMakeAll s clients all old new →
-    Holds s link old → HandsAll s link old → HandsAll s link new
-lines_hand s clients link [] old new fit w e k h = subst (HandsAll s link) (sym e) h
-lines_hand s clients link (line ∷ others) old new fit w e k h =
-    lines_hand s clients link others e.0 new fit w.1 e.2 (line_holds_all s clients link line old e.0 fit w.0 e.1 k) (line_hands_all s clients link line old e.0 fit e.1 k h)
-
--- ===== links open
-
-openings_hand : (s : Setting) (link : ℕ) (links : List ℕ) (d : Drill) → AreFirst s → IsLawful (s.opened link) link d.marks → HandsAll s link d → HandsAll s link (after_openings s links d)
-openings_hand s link [] d first lawful h = h
-openings_hand s link (l ∷ links) d first lawful h =
-    openings_hand s link links (after_opening s l d) first (opened_lawful s l link d (first.on l) lawful)
-    (hands_by s l link d (after_opening s l d) (record { own = λ own e. opening_hands s l d; extends = opening_adds s l d }) lawful h)
-  where
-    opened_lawful : (s : Setting) (l link : ℕ) (d : Drill) → IsFirstLink (s.opened l) → IsLawful (s.opened link) link d.marks → IsLawful (s.opened link) link (after_opening s l d).marks
-    opened_lawful s l link d first lawful = by (eqb l link) refl
-      where
-        differs : false ≡ true → ⊥
-        differs e = absurd cc
-
-        by : (b : Bool) → eqb l link ≡ b → IsLawful (s.opened link) link (after_opening s l d).marks
-        by true is =
-            let same = eqb-true l link is in
-            subst (λ (k : ℕ). IsLawful (s.opened k) k (after_opening s l d).marks) same (opening_keeps s l d first (subst (λ (k : ℕ). IsLawful (s.opened k) k d.marks) (sym same) lawful)).0
-        by false is = (elsewhere (s.opened link) link l d.marks (after_opening s l d).marks (λ same. differs (sym is ∙ eq-eqb l link same)) (opening_adds s l d).marks).lawful lawful
-
-start_hands : (o : LinkParameters) (link : ℕ) → NoneDue o link []
+pub start_hands : (o : LinkParameters) (link : ℕ) → NoneDue o link []
 unfolding outcomes_due accepted_calls
 start_hands o link = refl
-
-all_front_lem : {X : Type 0} (P : X → Type 0) (xs ys : List X) → AllByRecursion P (xs ++ ys) → AllByRecursion P xs
-all_front_lem P [] ys h = tt
-all_front_lem P (x ∷ xs) ys h = (h.0, all_front_lem P xs ys h.1)
-
--- On every link, after each line, whatever a script puts into its pipes, all outcomes that are due have been handed over.
-pub handed_after : (server : SerialServer) (script : ScriptLines) (before after : List Line) (d : Drill) → IsScript script → IsUnnumbered script → script.lines ≡ before ++ after →
-    FirstMakeAll (setting_of server script.opening) script.opening.clients before (opened_drill server script.opening) d → (link : ℕ) → IsClient script link → outcomes_due (parameters_of script.opening link) link d.marks ≡ []
-unfolding opened_drill
-handed_after server script before after d is none parts makes link within =
-    let opening = script.opening in
-    let s = setting_of server opening in
-    let clients = opening.clients in
-    let o = parameters_of opening link in
-    let firsts : AreFirst s = opened_firsts server opening none in
-    let began = openings_hold s link (links_of clients) (start s clients) firsts (among_range link 1 clients within.0 (let b = within.1 in omega (arith, b))) (start_lawful o link) (start_creds clients) in
-    let first = openings_hand s link (links_of clients) (start s clients) firsts (start_lawful o link) (start_hands o link) in
-    lines_hand s clients link before (opened_drill server opening) d (record { first = firsts; opened = opened_by_script script is })
-    (all_front_lem (IsFit s) before after (subst (AllByRecursion (IsFit s)) parts (all_fit server script is none))) makes began first
-
--- so in the end
-pub follows_hands : (server : SerialServer) (script : ScriptLines) (run : List Mark) → IsScript script → IsUnnumbered script → Follows server script run → (link : ℕ) → IsClient script link →
-    outcomes_due (parameters_of script.opening link) link run ≡ []
-follows_hands server script run is none follows link within =
-    let made = made_first server script.opening script.lines (opened_drill server script.opening) follows.last (opened_first_links server script.opening none) (all_fit server script is none)
-    (all_name script.opening [] script.lines is.follow_on) follows.makes in
-    subst (NoneDue (parameters_of script.opening link) link) (sym follows.marks_are)
-    (handed_after server script script.lines [] follows.last is none (sym (append-nil script.lines)) made link within)

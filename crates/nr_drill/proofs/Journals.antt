@@ -35,10 +35,9 @@ use Rattle.nr_drill.specs.Drill.{SerialServer, Setting, Drill, Pipes, plain_of, 
 use Rattle.nr_drill.specs.Follows.{Drains, Follows, parameters_of, setting_of, opened_drill}
 use Rattle.nr_drill.specs.Lines.{IsClient, IsUnnumbered}
 use Rattle.nr_drill.proofs.FirstLinks.{opened_firsts, down_is}
-use Rattle.nr_drill.proofs.FirstLines.{both_true}
+use Rattle.nr_drill.proofs.FirstLines.{both_true, follows_made, lines_heard, opened_heard}
+use Rattle.nr_drill.proofs.Opening.{heard_by_lem, number_more}
 use Rattle.nr_drill.proofs.Followed.{Extends, work_adds, up_adds, moves_adds}
-use Rattle.nr_drill.proofs.Carried.{follows_made}
-use Rattle.nr_drill.proofs.LessScripts.{heard_by_lem, number_more, lines_heard, opened_heard}
 use Rattle.std.proofs.lemmas.Bool.{leb-true}
 use Rattle.nr_drill.specs.Unnumbered.{AreFirst, first_line, FirstMakes, FirstMakeAll, UnnumberedMark, IsPlainRun, HeardNone}
 
@@ -86,7 +85,7 @@ tagged_entry client xid e = by (client == 0)
     by true = refl
     by false = refl
 
-tagged_alone : (client xid : ℕ) (es : List Entry) → entries_alone (map (tagged client xid) es) ≡ es
+pub tagged_alone : (client xid : ℕ) (es : List Entry) → entries_alone (map (tagged client xid) es) ≡ es
 tagged_alone client xid [] = refl
 tagged_alone client xid (e ∷ es) = λ i. tagged_entry client xid e i ∷ tagged_alone client xid es i
 
@@ -104,7 +103,7 @@ one_alone plain number T (marks.Revoke l xid bytes) none = refl
 one_alone plain number T (marks.Drop l) none = refl
 one_alone plain number T (marks.Told l what) none = refl
 
-both_alone : (T U : List TaggedEntry) → entries_alone (T ++ U) ≡ entries_alone T ++ entries_alone U
+pub both_alone : (T U : List TaggedEntry) → entries_alone (T ++ U) ≡ entries_alone T ++ entries_alone U
 both_alone [] U = refl
 both_alone (t ∷ T) U = ap (λ (es : List Entry). t.entry ∷ es) (both_alone T U)
 

@@ -1,16 +1,17 @@
 -- The laws of a link follow from the functions of a drill: each mark stands there by the definition by which the laws judge it.
-use Rattle.std.specs.Prelude.{is_none, ◌-◌, ◌==◌, ◌&&◌, ◌||◌, not, if◌then◌else◌, slice_get, unwrap_or, Contains}
-use Rattle.std.specs.List.{flat_map, list_any}
-use Rattle.std.proofs.Common.{◌≡◌, ◌≢◌, ℕ, cond, eqb, filter, ◌⊎◌, inl, inr, arith, eqb-true, zero, suc, Bool, true, false, take, List, [], ◌∷◌, ◌++◌, length, drop, Option, None, Some, refl, sym, ap, subst, ◌∙◌, append_assoc, append-nil}
+use Rattle.std.specs.Prelude.{◌-◌, ◌&&◌, ◌||◌, not, if◌then◌else◌, slice_get, unwrap_or, Contains}
+use Rattle.std.specs.List.{AllByRecursion, flat_map}
+use Rattle.std.proofs.Common.{◌≡◌, ◌≢◌, ℕ, ◌+◌, ◌≤◌, ◌<◌, cond, eqb, leb, filter, ◌⊎◌, inl, inr, arith, eqb-true, zero, suc, Bool, true, false, take, List, [], ◌∷◌, ◌++◌, length, map, drop, Option, None, Some, Result, Ok, Err, refl, sym, ap, subst, ◌∙◌, append_assoc, append-nil, length-append}
 use Rattle.std.proofs.Math.Seq.{drop-append_seam}
-use Rattle.std.proofs.lemmas.Bool.{eq-eqb}
-use Rattle.std.proofs.lemmas.List.Elements.{Contains-push_cases, Contains-append_cases, Contains-append_left, Contains-append_right}
+use Rattle.std.proofs.lemmas.Bool.{eq-eqb, leb-false}
+use Rattle.std.proofs.lemmas.List.Elements.{Contains-push_cases, Contains-append_cases}
 use Rattle.nr_wire.specs.declared.hello.Side.{Side}
 use Rattle.nr_wire.specs.declared.hello.Side.TheVariants.{Initiator, Responder}
 use Rattle.nr_rpc.specs.Credential.{CanWriteCred}
 use Rattle.nr_link.specs.declared.end.End.{End}
 use Rattle.nr_reduce.specs.declared.call.Call.{Call}
 use Rattle.nr_reduce.specs.declared.call.Form.{Form}
+use Rattle.nr_reduce.specs.declared.call.Refused.TheVariants as refusals
 use Rattle.nr_reduce.specs.declared.call.Submission.{Submission}
 use Rattle.nr_reduce.specs.declared.call.Submission.TheVariants as submissions
 use Rattle.nr_reduce.specs.declared.mark.Mark.{Mark}
@@ -18,34 +19,35 @@ use Rattle.nr_reduce.specs.declared.mark.Mark.TheVariants as marks
 use Rattle.nr_reduce.specs.declared.mark.Told.TheVariants.{Granted}
 use Rattle.nr_reduce.specs.declared.mark.Told.TheVariants as told
 use Rattle.nr_reduce.specs.declared.mark.LinkParameters.{LinkParameters}
+use Rattle.nr_reduce.specs.declared.outline.Plan.{Plan}
+use Rattle.nr_reduce.specs.Limits.{numbers_end}
+use Rattle.nr_reduce.specs.Plans.{TooLarge, regions_needed}
 use Rattle.nr_reduce.specs.AtEachMark.{AtEachMark}
-use Rattle.nr_reduce.specs.Opening.{IsOpened, IsFirstLink}
+use Rattle.nr_reduce.specs.Opening.{IsOpened}
 use Rattle.nr_reduce.specs.NumberedJournal.{Standing, number_heard, standing_for}
 use Rattle.nr_reduce.specs.NumberedJournal.Standing.{Old, Kept, New}
-use Rattle.nr_reduce.specs.SubmitAnswer.{unless_dropped, submit_answer, submit_answer_after}
+use Rattle.nr_reduce.specs.SubmitAnswer.{unless_dropped, by_plan, answer_by, submit_answer, submit_answer_after, calls_counted, calls_to_resend, unless_far, unless_spent}
 use Rattle.nr_reduce.specs.Matched.{IsPrefixOf}
-use Rattle.nr_reduce.specs.History.{AcceptedCall, CompletedCall, accepted_as, accepted_at, bytes_sent, written_at, accepted_calls, completed_at, completed_calls, abandons, is_abandoned, is_dropped}
+use Rattle.nr_reduce.specs.History.{CompletedCall, bytes_sent, written_at, accepted_calls, completed_calls, is_abandoned, is_dropped}
 use Rattle.nr_reduce.specs.OutcomesDue.{is_completed, outcomes_of_call, outcomes_due}
-use Rattle.nr_reduce.specs.Events.{events_at, if_own}
-use Rattle.nr_reduce.specs.Events.RunEvent.{QueueWritten, ServerTold}
-use Rattle.nr_reduce.specs.EndRules.{output_for_all}
-use Rattle.nr_reduce.specs.ClientState.{ClientState}
+use Rattle.nr_reduce.specs.Events.{RunEvent, events_at, if_own}
+use Rattle.nr_reduce.specs.Events.RunEvent.{FrameReceived, CallSubmitted, MemoryRevoked, CallExecuted, QueueWritten, ServerTold}
+use Rattle.nr_reduce.specs.EndRules.{EndState, next_end_state, next_end_state_in, end_state_after, output_for_all}
+use Rattle.nr_reduce.specs.ClientState.{ClientState, WaitingCall, others_than, plan_for}
 use Rattle.nr_reduce.specs.ServerState.{ServerState, ReadyCall}
-use Rattle.nr_reduce.specs.Client.{client_rules, client_end, client_output}
+use Rattle.nr_reduce.specs.Client.{client_rules, client_end, client_output, client_state_after, outstanding_of, revoked_call, revoked_waiting}
 use Rattle.nr_reduce.specs.Server.{server_rules, server_end, server_output}
 use Rattle.nr_reduce.specs.Run.{client, server, output_due}
-use Rattle.nr_reduce.specs.Asked.{AskedMark, AskedSoFar, IsAll, IsCompleted, IsAwaited, IsAwaitedOrWaits, revoked_bytes}
+use Rattle.nr_reduce.specs.Asked.{AskedMark, AskedSoFar, IsAll, IsCompleted, IsAwaitedOrWaits, ResentMark, revoked_bytes}
 use Rattle.nr_reduce.specs.Served.{ServedMark, next_call, last_frame_at, ToldInRange}
-use Rattle.nr_reduce.proofs.Steps.{output_due_up_one, output_due_down_one}
+use Rattle.nr_reduce.proofs.Steps.{client_one, output_due_up_one, output_due_down_one}
 use Rattle.nr_reduce.proofs.SoFarLaws.{AtEachMark_each, asked_mark}
 use Rattle.nr_reduce.proofs.Submitting.{accepted_keeps}
-use Rattle.nr_reduce.proofs.Unresumed.{none_waits, awaited_or_waits}
+use Rattle.nr_reduce.proofs.Resending.{accepted, resent_next}
 use Rattle.nr_reduce.proofs.Standing.{AtEachMark_more, itself, sent_one}
 use Rattle.nr_laws.proofs.LiveRegions.{passes_any}
 use Rattle.nr_laws.specs.Grant.{AcceptedMark, AcceptsByRule}
-use Rattle.nr_drill.specs.Drill.{Setting, Drill, Pipes, GivenReply, client_of, is_sent_again, settles, standing_of, reply_given, unwritten, after_output, after_all_output, settled, pipes_of, with_mark, after_submit, after_feeding, after_feeding_up, after_up, if_standing, waiting_call, after_answer, after_call, after_execution, after_work, after_calls, after_drop, after_feeding_down, after_handing, after_done, after_dones, after_outcomes, after_down, answer_at, answer_of_line, is_open, open_xid, after_giving_up, after_forget, after_taking_back, after_revoke, after_all_up, after_all_work, after_moves, after_grant, journal_of}
-use Rattle.nr_drill.proofs.FirstLinks.{own_client, down_is}
-use Rattle.nr_drill.specs.Unnumbered.{AreFirst}
+use Rattle.nr_drill.specs.Drill.{Setting, Drill, Pipes, GivenReply, client_of, standing_of, reply_given, unwritten, after_output, after_all_output, settled, pipes_of, with_mark, after_submit, after_feeding, after_feeding_up, after_up, if_standing, waiting_call, after_answer, after_call, after_execution, after_work, after_calls, after_drop, after_feeding_down, after_handing, after_done, after_dones, after_outcomes, after_down, answer_of_line, open_xid, after_giving_up, after_forget, after_taking_back, after_revoke, after_all_up, after_all_work, after_moves, after_grant, journal_of, resend_mark, after_resends}
 
 -- what a side has to write is what it wrote and what it hasn't written yet
 abbrev pub IsDueOf : LinkParameters → ℕ → Side → List Mark → Type 0
@@ -58,6 +60,7 @@ pub record IsLawful (o : LinkParameters) (link : ℕ) (run : List Mark) : Type 0
   pub accepts : AcceptsByRule o link run
   pub client : IsDueOf o link Initiator run
   pub server : IsDueOf o link Responder run
+  pub resent : AtEachMark (ResentMark o link) [] run
 
 -- nothing is left to write
 pub record IsWritten (o : LinkParameters) (link : ℕ) (run : List Mark) : Type 0 where
@@ -109,14 +112,97 @@ due_wrote o link side run mark all is =
 -- a mark that is no Wrote of the link, and by which its laws hold
 pub lawful_mark : (o : LinkParameters) (link : ℕ) (run : List Mark) (mark : Mark) → IsLawful o link run →
     written_at link Initiator mark ≡ [] → written_at link Responder mark ≡ [] →
-    AskedMark IsAll o link run mark → ServedMark IsAll o link run mark → AcceptedMark o link run mark → IsLawful o link (run ++ mark ∷ [])
-lawful_mark o link run mark h up down a s g = record {
+    AskedMark IsAll o link run mark → ServedMark IsAll o link run mark → AcceptedMark o link run mark → ResentMark o link run mark → IsLawful o link (run ++ mark ∷ [])
+lawful_mark o link run mark h up down a s g again = record {
   asked = AtEachMark_more (AskedMark IsAll o link) [] run mark h.asked a;
   served = AtEachMark_more (ServedMark IsAll o link) [] run mark h.served s;
   accepts = AtEachMark_more (AcceptedMark o link) [] run mark h.accepts g;
   client = due_of o link Initiator (run ++ mark ∷ []) (unwritten o link Initiator run ++ more_due o link Initiator run mark) (due_more o link Initiator run mark up h.client);
   server = due_of o link Responder (run ++ mark ∷ []) (unwritten o link Responder run ++ more_due o link Responder run mark) (due_more o link Responder run mark down h.server);
+  resent = AtEachMark_more (ResentMark o link) [] run mark h.resent again;
 }
+
+-- ===== what can be sent again
+
+-- no call can be sent again
+abbrev pub NoneAgain : LinkParameters → ℕ → List Mark → Type 0
+NoneAgain o link run = calls_to_resend (client o link run) ≡ []
+
+take_nil : {X : Type 0} (n : ℕ) → take n (let none : List X = [] in none) ≡ []
+take_nil zero = refl
+take_nil (suc n) = refl
+
+pub no_length : {X : Type 0} (xs : List X) → length xs ≤ 0 → xs ≡ []
+no_length [] le = refl
+no_length (x ∷ xs) le = absurd (omega (arith, le))
+
+-- of fewer calls, fewer
+fewer_taken : {X : Type 0} (n m : ℕ) (xs ys : List X) → m ≤ n → length ys ≤ length xs → take n xs ≡ [] → take m ys ≡ []
+fewer_taken {X = X} zero m xs ys le few e = (let none : m ≡ 0 = omega (arith, le) in ap (λ (k : ℕ). take k ys) none)
+fewer_taken {X = X} (suc n) m [] ys le few e = ap (λ (zs : List X). take m zs) (no_length ys few) ∙ take_nil m
+fewer_taken (suc n) m (x ∷ xs) ys le few e = absurd cc
+
+same_count : {X Y : Type 0} (f : X → Y) (xs : List X) → length (map f xs) ≡ length xs
+same_count f [] = refl
+same_count f (x ∷ xs) = ap (λ (n : ℕ). suc n) (same_count f xs)
+
+fewer_others : (ws : List WaitingCall) (xid : ℕ) → length (others_than ws xid) ≤ length ws
+fewer_others [] xid = omega arith
+fewer_others (w ∷ ws) xid = by (eqb w.xid xid)
+  where
+    by : (b : Bool) → length (cond b ws (w ∷ ws)) ≤ length (w ∷ ws)
+    by true = omega arith
+    by false = omega arith
+
+-- an event that is no frame
+abbrev pub IsNoFrame : RunEvent → Type 0
+IsNoFrame (FrameReceived f) = ⊥
+IsNoFrame (CallSubmitted place a) = Unit {0}
+IsNoFrame (MemoryRevoked place xid) = Unit {0}
+IsNoFrame (CallExecuted call) = Unit {0}
+IsNoFrame (QueueWritten taken) = Unit {0}
+IsNoFrame (ServerTold what) = Unit {0}
+
+abbrev pub NoFrames : List RunEvent → Type 0
+NoFrames es = AllByRecursion IsNoFrame es
+
+pub if_none_lem : (b : Bool) (es : List RunEvent) → NoFrames es → NoFrames (if_own b es)
+if_none_lem true es h = h
+if_none_lem false es h = tt
+
+pub other_side_lem : (b : Bool) (es : List RunEvent) → NoFrames (if_own (b && false) es)
+other_side_lem true es = tt
+other_side_lem false es = tt
+
+abbrev again_of : Bool → ℕ → List WaitingCall → List WaitingCall
+again_of hello n ws = if hello then take n ws else []
+
+again_fewer : (hello : Bool) (n m : ℕ) (ws vs : List WaitingCall) → m ≤ n → length vs ≤ length ws → again_of hello n ws ≡ [] → again_of hello m vs ≡ []
+again_fewer true n m ws vs le few e = fewer_taken n m ws vs le few e
+again_fewer false n m ws vs le few e = refl
+
+again_event : (o : LinkParameters) (k : ClientState) (ended : Option End) (e : RunEvent) → IsNoFrame e → calls_to_resend (record { state = k; ended = ended }) ≡ [] → calls_to_resend (next_end_state_in (client_rules o) k e ended) ≡ []
+unfolding calls_to_resend client_state_after client_end
+again_event o k (Some end) e h none = none
+again_event o k None (FrameReceived f) h none = absurd h
+again_event o k None (CallSubmitted place a) h none =
+    let one : length (k.outstanding ++ outstanding_of k a ∷ []) ≡ length k.outstanding + 1 = length-append k.outstanding (outstanding_of k a ∷ []) in
+    again_fewer k.has_hello (k.grant - length k.outstanding) (k.grant - length (k.outstanding ++ outstanding_of k a ∷ [])) k.waiting (others_than k.waiting a.xid) (omega (arith, one)) (fewer_others k.waiting a.xid) none
+again_event o k None (MemoryRevoked place xid) h none =
+    let out : length (map (revoked_call xid) k.outstanding) ≡ length k.outstanding = same_count (revoked_call xid) k.outstanding in
+    let all : length (map (revoked_waiting xid) k.waiting) ≡ length k.waiting = same_count (revoked_waiting xid) k.waiting in
+    again_fewer k.has_hello (k.grant - length k.outstanding) (k.grant - length (map (revoked_call xid) k.outstanding)) k.waiting (map (revoked_waiting xid) k.waiting) (omega (arith, out)) (omega (arith, all)) none
+again_event o k None (CallExecuted call) h none = none
+again_event o k None (QueueWritten taken) h none = none
+again_event o k None (ServerTold what) h none = none
+
+again_events : (o : LinkParameters) (r : EndState ClientState) (es : List RunEvent) → NoFrames es → calls_to_resend r ≡ [] → calls_to_resend (end_state_after (client_rules o) r es) ≡ []
+again_events o r [] h none = none
+again_events o r (e ∷ es) h none = again_events o (next_end_state (client_rules o) r e) es h.1 (again_event o r.state r.ended e h.0 none)
+
+-- so with a mark that brings no frame none can be sent again
+pub again_mark : (o : LinkParameters) (link : ℕ) (run : List Mark) (mark : Mark) → NoFrames (events_at link Initiator run mark) → NoneAgain o link run → NoneAgain o link (run ++ mark ∷ [])
+again_mark o link run mark h none = ap calls_to_resend (client_one o link run mark) ∙ again_events o (client o link run) (events_at link Initiator run mark) h none
 
 -- ===== what is written
 
@@ -181,9 +267,9 @@ left_alone o link side writer run bytes none is =
     ∙ due_more o link side run (marks.Wrote link writer bytes) none is
 
 -- after a Wrote of the client, or of the server, of all that it has to write
-pub lawful_up : (o : LinkParameters) (link : ℕ) (run : List Mark) (bytes : List ℕ) → bytes ≡ unwritten o link Initiator run → IsLawful o link run →
+pub lawful_up : (o : LinkParameters) (link : ℕ) (run : List Mark) (bytes : List ℕ) → bytes ≡ unwritten o link Initiator run → NoneAgain o link run → IsLawful o link run →
     IsLawful o link (run ++ marks.Wrote link Initiator bytes ∷ [])
-lawful_up o link run bytes all h =
+lawful_up o link run bytes all none h =
     let mark = marks.Wrote link Initiator bytes in
     record {
       asked = AtEachMark_more (AskedMark IsAll o link) [] run mark h.asked (λ same. ap (λ (xs : List ℕ). bytes_sent link Initiator run ++ xs) all ∙ h.client);
@@ -191,6 +277,7 @@ lawful_up o link run bytes all h =
       accepts = AtEachMark_more (AcceptedMark o link) [] run mark h.accepts tt;
       client = due_of o link Initiator (run ++ mark ∷ []) [] (wrote_all o link Initiator run bytes all h.client);
       server = due_of o link Responder (run ++ mark ∷ []) (unwritten o link Responder run) (left_alone o link Responder Initiator run bytes (up_written link bytes) h.server);
+      resent = AtEachMark_more (ResentMark o link) [] run mark h.resent (λ same. none);
     }
 
 pub lawful_down : (o : LinkParameters) (link : ℕ) (run : List Mark) (bytes : List ℕ) → bytes ≡ unwritten o link Responder run → IsLawful o link run →
@@ -203,56 +290,115 @@ lawful_down o link run bytes all h =
       accepts = AtEachMark_more (AcceptedMark o link) [] run mark h.accepts tt;
       client = due_of o link Initiator (run ++ mark ∷ []) (unwritten o link Initiator run) (left_alone o link Initiator Responder run bytes (down_written link bytes) h.client);
       server = due_of o link Responder (run ++ mark ∷ []) [] (wrote_all o link Responder run bytes all h.server);
+      resent = AtEachMark_more (ResentMark o link) [] run mark h.resent tt;
     }
 
+wrote_none : (o : LinkParameters) (link : ℕ) (side : Side) (run : List Mark) (bytes : List ℕ) → NoneAgain o link run → NoneAgain o link (run ++ marks.Wrote link side bytes ∷ [])
+wrote_none o link side run bytes none = again_mark o link run (marks.Wrote link side bytes) (if_none_lem _ (QueueWritten (length bytes) ∷ []) (tt, tt)) none
+
 -- the client writes what it has to write
-client_writes : (o : LinkParameters) (link : ℕ) (bytes : List ℕ) (d : Drill) → bytes ≡ unwritten o link Initiator d.marks → IsLawful o link d.marks →
-    IsLawful o link (after_output link Initiator bytes d).marks × (unwritten o link Initiator (after_output link Initiator bytes d).marks ≡ [])
-client_writes o link [] d all h = (h, sym all)
-client_writes o link (b ∷ bytes) d all h = (
-  lawful_up o link d.marks (b ∷ bytes) all h,
+client_writes : (o : LinkParameters) (link : ℕ) (bytes : List ℕ) (d : Drill) → bytes ≡ unwritten o link Initiator d.marks → NoneAgain o link d.marks → IsLawful o link d.marks →
+    IsLawful o link (after_output link Initiator bytes d).marks × (unwritten o link Initiator (after_output link Initiator bytes d).marks ≡ []) × NoneAgain o link (after_output link Initiator bytes d).marks
+client_writes o link [] d all none h = (h, sym all, none)
+client_writes o link (b ∷ bytes) d all none h = (
+  lawful_up o link d.marks (b ∷ bytes) all none h,
   left_is o link Initiator (d.marks ++ marks.Wrote link Initiator (b ∷ bytes) ∷ []) [] (wrote_all o link Initiator d.marks (b ∷ bytes) all h.client),
+  wrote_none o link Initiator d.marks (b ∷ bytes) none,
 )
 
 -- then the server, and the client still has nothing to write
-server_writes : (o : LinkParameters) (link : ℕ) (bytes : List ℕ) (d : Drill) → bytes ≡ unwritten o link Responder d.marks → IsLawful o link d.marks → unwritten o link Initiator d.marks ≡ [] →
-    IsLawful o link (after_output link Responder bytes d).marks × IsWritten o link (after_output link Responder bytes d).marks
-server_writes o link [] d all h none = (h, record { client = none; server = sym all })
-server_writes o link (b ∷ bytes) d all h none =
+server_writes : (o : LinkParameters) (link : ℕ) (bytes : List ℕ) (d : Drill) → bytes ≡ unwritten o link Responder d.marks → IsLawful o link d.marks → unwritten o link Initiator d.marks ≡ [] → NoneAgain o link d.marks →
+    IsLawful o link (after_output link Responder bytes d).marks × IsWritten o link (after_output link Responder bytes d).marks × NoneAgain o link (after_output link Responder bytes d).marks
+server_writes o link [] d all h written none = (h, record { client = written; server = sym all }, none)
+server_writes o link (b ∷ bytes) d all h written none =
     let run = d.marks ++ marks.Wrote link Responder (b ∷ bytes) ∷ [] in (
       lawful_down o link d.marks (b ∷ bytes) all h,
       record {
-        client = left_is o link Initiator run (unwritten o link Initiator d.marks) (left_alone o link Initiator Responder d.marks (b ∷ bytes) (down_written link (b ∷ bytes)) h.client) ∙ none;
+        client = left_is o link Initiator run (unwritten o link Initiator d.marks) (left_alone o link Initiator Responder d.marks (b ∷ bytes) (down_written link (b ∷ bytes)) h.client) ∙ written;
         server = left_is o link Responder run [] (wrote_all o link Responder d.marks (b ∷ bytes) all h.server);
       },
+      wrote_none o link Responder d.marks (b ∷ bytes) none,
     )
 
-pub lawful_settled : (s : Setting) (link : ℕ) (d : Drill) → IsLawful (s.opened link) link d.marks →
-    IsLawful (s.opened link) link (settled s link d).marks × IsWritten (s.opened link) link (settled s link d).marks
+-- the laws of a link with nothing left to write, and no call that can be sent again, for a drill
+abbrev pub Keeps : Setting → ℕ → Drill → Type 0
+Keeps s link d = IsLawful (s.opened link) link d.marks × IsWritten (s.opened link) link d.marks × NoneAgain (s.opened link) link d.marks
+
+pub lawful_settled : (s : Setting) (link : ℕ) (d : Drill) → NoneAgain (s.opened link) link d.marks → IsLawful (s.opened link) link d.marks → Keeps s link (settled s link d)
 unfolding settled
-lawful_settled s link d h =
+lawful_settled s link d none h =
     let o = s.opened link in
-    let up = client_writes o link (unwritten o link Initiator d.marks) d refl h in
+    let up = client_writes o link (unwritten o link Initiator d.marks) d refl none h in
     let mid = after_all_output s link Initiator d in
-    server_writes o link (unwritten o link Responder mid.marks) mid refl up.0 up.1
+    server_writes o link (unwritten o link Responder mid.marks) mid refl up.0 up.1 up.2
 
 -- ===== calls are submitted, bytes are fed, calls are executed
 
-asked_so_far : (o : LinkParameters) (link : ℕ) (run : List Mark) → IsLawful o link run → AskedSoFar o link run
+pub asked_so_far : (o : LinkParameters) (link : ℕ) (run : List Mark) → IsLawful o link run → AskedSoFar o link run
 asked_so_far o link run h = AtEachMark_each (AskedMark IsAll o link) (AskedMark IsPrefixOf o link) [] run (asked_mark o link) h.asked
 
-not_dropped : (dropped : Bool) (answer : Submission) (xid : ℕ) → unless_dropped dropped answer ≡ submissions.Accepted xid → answer ≡ submissions.Accepted xid
+pub not_dropped : (dropped : Bool) (answer : Submission) (xid : ℕ) → unless_dropped dropped answer ≡ submissions.Accepted xid → answer ≡ submissions.Accepted xid
 not_dropped true answer xid e = absurd cc
 not_dropped false answer xid e = e
 
+-- a client that hasn't ended has its server's hello
+abbrev pub IsGreeted : LinkParameters → ℕ → List Mark → Type 0
+IsGreeted o link run = (client o link run).ended ≡ None → (client o link run).state.has_hello ≡ true
+
+-- a call is accepted by its answer while a credit is left beside all that are outstanding or wait
+pub accepted_within : (k : ClientState) (call : Call) (form : Form) (ended : Option End) (xid : ℕ) → answer_by k call form ended ≡ submissions.Accepted xid → (ended ≡ None) × (calls_counted k < k.grant)
+accepted_within k call form (Some end) xid e = absurd cc
+accepted_within k call form None xid e = (refl, by_result (plan_for k k.next_xid call form) e)
+  where
+    by_grant : (plan : Plan) (b : Bool) → leb k.grant (calls_counted k) ≡ b →
+        cond b (submissions.Refused (refusals.NoCredit (calls_counted k) k.grant)) (unless_far k (unless_spent (numbers_end - k.next_xid) 1 (unless_spent (numbers_end - k.stag) (regions_needed plan) (submissions.Accepted k.next_xid))))
+        ≡ submissions.Accepted xid → (calls_counted k < k.grant)
+    by_grant plan true is e = absurd cc
+    by_grant plan false is e = leb-false k.grant (calls_counted k) is
+
+    by_result : (r : Result Plan TooLarge) → by_plan k r ≡ submissions.Accepted xid → calls_counted k < k.grant
+    by_result (Ok plan) e = by_grant plan (leb k.grant (calls_counted k)) refl e
+    by_result (Err large) e = absurd cc
+
+none_of_taken : (hello : Bool) (n : ℕ) (ws : List WaitingCall) → hello ≡ true → 1 ≤ n → again_of hello n ws ≡ [] → ws ≡ []
+none_of_taken false n ws greeted some e = absurd (let wrong : false ≡ true = greeted in cc)
+none_of_taken true zero ws greeted some e = absurd (omega (arith, some))
+none_of_taken true (suc n) [] greeted some e = refl
+none_of_taken true (suc n) (w ∷ ws) greeted some e = absurd cc
+
+waiting_none : (k : ClientState) (ended : Option End) → ended ≡ None → k.has_hello ≡ true → calls_counted k < k.grant → calls_to_resend (record { state = k; ended = ended }) ≡ [] → k.waiting ≡ []
+unfolding calls_to_resend
+waiting_none k None stays greeted within none = none_of_taken k.has_hello (k.grant - length k.outstanding) k.waiting greeted (let lt = within in omega (arith, lt)) none
+waiting_none k (Some end) stays greeted within none = absurd cc
+
+-- so none waits then
+pub none_waits_then : (o : LinkParameters) (link : ℕ) (run : List Mark) (call : Call) (form : Form) (xid : ℕ) → IsGreeted o link run → NoneAgain o link run → submit_answer (client o link run) call form ≡ submissions.Accepted xid →
+    (client o link run).state.waiting ≡ []
+unfolding submit_answer
+none_waits_then o link run call form xid greeted none e =
+    let h = accepted_within (client o link run).state call form (client o link run).ended xid e in
+    waiting_none (client o link run).state (client o link run).ended h.0 (greeted h.0) h.1 none
+
 -- what a client answers keeps the law
-pub answer_asked : (o : LinkParameters) (link : ℕ) (run : List Mark) (call : Call) (form : Form) (answer : Submission) → IsFirstLink o → IsOpened o → CanWriteCred call.cred → IsLawful o link run →
+pub answer_asked : (o : LinkParameters) (link : ℕ) (run : List Mark) (call : Call) (form : Form) (answer : Submission) → IsOpened o → IsGreeted o link run → NoneAgain o link run → CanWriteCred call.cred → IsLawful o link run →
     submit_answer_after o link run call form ≡ answer → AskedMark IsAll o link run (marks.Submit link call form answer)
 unfolding submit_answer_after
-answer_asked o link run call form (submissions.Accepted xid) first numbers writable h e =
-    λ same. (accepted_keeps o link run call form xid (not_dropped (is_dropped link run) (submit_answer (client o link run) call form) xid e) (none_waits o link run first.resumed) numbers (asked_so_far o link run h) writable).0
-answer_asked o link run call form (submissions.Refused why) first numbers writable h e = tt
-answer_asked o link run call form submissions.Dropped first numbers writable h e = tt
+answer_asked o link run call form (submissions.Accepted xid) numbers greeted none writable h e =
+    λ same. (let own = not_dropped (is_dropped link run) (submit_answer (client o link run) call form) xid e in
+    (accepted_keeps o link run call form xid own (none_waits_then o link run call form xid greeted none own) numbers (asked_so_far o link run h) writable).0)
+answer_asked o link run call form (submissions.Refused why) numbers greeted none writable h e = tt
+answer_asked o link run call form submissions.Dropped numbers greeted none writable h e = tt
+
+answer_again : (o : LinkParameters) (link : ℕ) (run : List Mark) (call : Call) (form : Form) (answer : Submission) → NoneAgain o link run → ResentMark o link run (marks.Submit link call form answer)
+answer_again o link run call form (submissions.Accepted xid) none = tt
+answer_again o link run call form (submissions.Refused why) none = λ same. none
+answer_again o link run call form submissions.Dropped none = tt
+
+submit_none : (o : LinkParameters) (link : ℕ) (run : List Mark) (call : Call) (form : Form) (answer : Submission) → NoneAgain o link run → NoneAgain o link (run ++ marks.Submit link call form answer ∷ [])
+submit_none o link run call form (submissions.Accepted xid) none =
+    again_mark o link run (marks.Submit link call form (submissions.Accepted xid)) (if_none_lem _ (CallSubmitted _ (record { xid = xid; call = call; form = form }) ∷ []) (tt, tt)) none
+submit_none o link run call form (submissions.Refused why) none = again_mark o link run (marks.Submit link call form (submissions.Refused why)) tt none
+submit_none o link run call form submissions.Dropped none = again_mark o link run (marks.Submit link call form submissions.Dropped) tt none
 
 answer_accepted : (o : LinkParameters) (link : ℕ) (run : List Mark) (call : Call) (form : Form) (answer : Submission) →
     submit_answer_after o link run call form ≡ answer → AcceptedMark o link run (marks.Submit link call form answer)
@@ -260,29 +406,34 @@ answer_accepted o link run call form (submissions.Accepted xid) e = λ same. inl
 answer_accepted o link run call form (submissions.Refused why) e = tt
 answer_accepted o link run call form submissions.Dropped e = tt
 
--- the laws of a link with nothing left to write, for a drill
-abbrev pub Keeps : Setting → ℕ → Drill → Type 0
-Keeps s link d = IsLawful (s.opened link) link d.marks × IsWritten (s.opened link) link d.marks
-
-pub lawful_submit : (s : Setting) (link : ℕ) (call : Call) (form : Form) (d : Drill) → IsFirstLink (s.opened link) → IsOpened (s.opened link) → CanWriteCred call.cred → Keeps s link d → Keeps s link (after_submit s link call form d)
+pub lawful_submit : (s : Setting) (link : ℕ) (call : Call) (form : Form) (d : Drill) → IsOpened (s.opened link) → IsGreeted (s.opened link) link d.marks → CanWriteCred call.cred → Keeps s link d → Keeps s link (after_submit s link call form d)
 unfolding after_submit
-lawful_submit s link call form d first numbers writable h =
+lawful_submit s link call form d numbers greeted writable h =
     let o = s.opened link in
     let answer = submit_answer_after o link d.marks call form in
     let mark = marks.Submit link call form answer in
-    lawful_settled s link (with_mark mark d) (lawful_mark o link d.marks mark h.0 refl refl
-    (answer_asked o link d.marks call form answer first numbers writable h.0 refl) tt (answer_accepted o link d.marks call form answer refl))
+    lawful_settled s link (with_mark mark d) (submit_none o link d.marks call form answer h.2) (lawful_mark o link d.marks mark h.0 refl refl
+    (answer_asked o link d.marks call form answer numbers greeted h.2 writable h.0 refl) tt (answer_accepted o link d.marks call form answer refl) (answer_again o link d.marks call form answer h.2))
 
-lawful_fed : (s : Setting) (link : ℕ) (side : Side) (bytes : List ℕ) (rest : Pipes) (d : Drill) → IsLawful (s.opened link) link d.marks →
+fed_again : (o : LinkParameters) (link : ℕ) (run : List Mark) (side : Side) (bytes : List ℕ) → NoneAgain o link run → ResentMark o link run (marks.Fed link side bytes)
+fed_again o link run Initiator bytes none = λ same. none
+fed_again o link run Responder bytes none = tt
+
+lawful_fed : (s : Setting) (link : ℕ) (side : Side) (bytes : List ℕ) (rest : Pipes) (d : Drill) → NoneAgain (s.opened link) link d.marks → IsLawful (s.opened link) link d.marks →
     IsLawful (s.opened link) link (after_feeding link side bytes rest d).marks
-lawful_fed s link side [] rest d h = h
-lawful_fed s link side (b ∷ bytes) rest d h = lawful_mark (s.opened link) link d.marks (marks.Fed link side (b ∷ bytes)) h refl refl tt tt tt
+lawful_fed s link side [] rest d none h = h
+lawful_fed s link side (b ∷ bytes) rest d none h = lawful_mark (s.opened link) link d.marks (marks.Fed link side (b ∷ bytes)) h refl refl tt tt tt (fed_again (s.opened link) link d.marks side (b ∷ bytes) none)
+
+up_none : (s : Setting) (link : ℕ) (bytes : List ℕ) (rest : Pipes) (d : Drill) → NoneAgain (s.opened link) link d.marks → NoneAgain (s.opened link) link (after_feeding link Responder bytes rest d).marks
+up_none s link [] rest d none = none
+up_none s link (b ∷ bytes) rest d none = again_mark (s.opened link) link d.marks (marks.Fed link Responder (b ∷ bytes)) (other_side_lem (eqb link link) _) none
 
 pub lawful_after_up : (s : Setting) (link n : ℕ) (d : Drill) → Keeps s link d → Keeps s link (after_up s link n d)
 unfolding after_up
 lawful_after_up s link n d h =
     let pipes = pipes_of link d in
-    lawful_settled s link (after_feeding_up link n d) (lawful_fed s link Responder (take n pipes.up) (record pipes { up = drop n pipes.up }) d h.0)
+    let rest : Pipes = record pipes { up = drop n pipes.up } in
+    lawful_settled s link (after_feeding_up link n d) (up_none s link (take n pipes.up) rest d h.2) (lawful_fed s link Responder (take n pipes.up) rest d h.2 h.0)
 
 -- a call that waits is the next one of a server
 is_next : (dropped : Bool) (call : ReadyCall) (next : Option ReadyCall) → if_standing dropped next ≡ Some call → next ≡ Some call
@@ -295,7 +446,8 @@ lawful_answer s link call None d next h = h
 lawful_answer s link call (Some g) d next h =
     let o = s.opened link in
     let mark = marks.Execute link call.xid g.moment call.payload g.place g.reply in
-    lawful_settled s link (with_mark mark d) (lawful_mark o link d.marks mark h.0 refl refl tt (λ same. record { call = call; is_next = next; own = refl; conveyed = refl }) tt)
+    lawful_settled s link (with_mark mark d) (again_mark o link d.marks mark (other_side_lem (eqb link link) _) h.2)
+    (lawful_mark o link d.marks mark h.0 refl refl tt (λ same. record { call = call; is_next = next; own = refl; conveyed = refl }) tt tt)
 
 -- an old call is one of a client with a number, and ends the link
 old_numbered : (s : Setting) (link : ℕ) (call : ReadyCall) (d : Drill) (top : ℕ) → standing_of s link d call ≡ Old top → number_heard d.marks link ≢ 0
@@ -307,7 +459,8 @@ lawful_call : (s : Setting) (link : ℕ) (call : ReadyCall) (is : Standing) (ans
 lawful_call s link call (Old top) answer d stood next h =
     let o = s.opened link in
     let mark = marks.Told link (told.Old call.xid (last_frame_at link d.marks)) in
-    lawful_settled s link (with_mark mark d) (lawful_mark o link d.marks mark h.0 refl refl tt (λ same. record { call = call; numbered = old_numbered s link call d top stood; is_next = next; own = refl; last = refl }) tt)
+    lawful_settled s link (with_mark mark d) (again_mark o link d.marks mark (other_side_lem (eqb link link) _) h.2)
+    (lawful_mark o link d.marks mark h.0 refl refl tt (λ same. record { call = call; numbered = old_numbered s link call d top stood; is_next = next; own = refl; last = refl }) tt tt)
 lawful_call s link call (Kept place) answer d stood next h = lawful_answer s link call answer d next h
 lawful_call s link call New answer d stood next h = lawful_answer s link call answer d next h
 
@@ -327,24 +480,24 @@ lawful_calls s link zero d h = h
 lawful_calls s link (suc n) d h = lawful_calls s link n (after_work s link d) (lawful_work s link d h)
 
 pub lawful_drop : (s : Setting) (link : ℕ) (d : Drill) → IsLawful (s.opened link) link d.marks → IsLawful (s.opened link) link (after_drop link d).marks
-lawful_drop s link d h = lawful_mark (s.opened link) link d.marks (marks.Drop link) h refl refl tt tt tt
+lawful_drop s link d h = lawful_mark (s.opened link) link d.marks (marks.Drop link) h refl refl tt tt tt tt
 
 -- a server is told to grant from 1 to as many credits as it was opened with
 pub lawful_grant : (s : Setting) (link credits : ℕ) (d : Drill) → ToldInRange (s.opened link) (Granted credits) → IsLawful (s.opened link) link d.marks → IsLawful (s.opened link) link (after_grant link credits d).marks
-lawful_grant s link credits d within h = lawful_mark (s.opened link) link d.marks (marks.Told link (Granted credits)) h refl refl tt (λ same. within) tt
+lawful_grant s link credits d within h = lawful_mark (s.opened link) link d.marks (marks.Told link (Granted credits)) h refl refl tt (λ same. within) tt tt
 
 -- ===== lists
 
-here : {X : Type 0} (x : X) (xs : List X) (c : X) → x ≡ c → Contains (x ∷ xs) c
+pub here : {X : Type 0} (x : X) (xs : List X) (c : X) → x ≡ c → Contains (x ∷ xs) c
 here x xs c is = (zero, omega arith, is)
 
-there : {X : Type 0} (x : X) (xs : List X) (c : X) → Contains xs c → Contains (x ∷ xs) c
+pub there : {X : Type 0} (x : X) (xs : List X) (c : X) → Contains xs c → Contains (x ∷ xs) c
 there x xs c h = (suc h.0, (let lt = h.1 in omega (arith, lt)), h.2)
 
-none_in : {X : Type 0} {W : Type 0} (c : X) → Contains [] c → W
+pub none_in : {X : Type 0} {W : Type 0} (c : X) → Contains [] c → W
 none_in c h = absurd (let lt = h.1 in omega (arith, lt))
 
-one_in : {X : Type 0} (x c : X) → Contains (x ∷ []) c → x ≡ c
+pub one_in : {X : Type 0} (x c : X) → Contains (x ∷ []) c → x ≡ c
 one_in {X = X} x c h = by (Contains-push_cases [] x c h)
   where
     by : Contains [] c ⊎ (x ≡ c) → x ≡ c
@@ -352,12 +505,12 @@ one_in {X = X} x c h = by (Contains-push_cases [] x c h)
     by (inr is) = is
 
 -- the element at an index of a list, and the first one that passes a test
-got_in : {X : Type 0} (xs : List X) (i : ℕ) (c : X) → slice_get xs i ≡ Some c → Contains xs c
+pub got_in : {X : Type 0} (xs : List X) (i : ℕ) (c : X) → slice_get xs i ≡ Some c → Contains xs c
 got_in [] i c e = absurd cc
 got_in {X = X} (x ∷ xs) zero c e = here x xs c (ap (λ (o : Option X). unwrap_or o c) e)
 got_in (x ∷ xs) (suc i) c e = there x xs c (got_in xs i c e)
 
-passed : {X : Type 0} (p : X → Bool) (xs : List X) (c : X) → Contains (filter p xs) c → Contains xs c × (p c ≡ true)
+pub passed : {X : Type 0} (p : X → Bool) (xs : List X) (c : X) → Contains (filter p xs) c → Contains xs c × (p c ≡ true)
 passed p [] c h = none_in {W = Contains [] c × (p c ≡ true)} c h
 passed {X = X} p (x ∷ xs) c h = by (passed p xs c) (p x) refl h
   where
@@ -392,7 +545,7 @@ neither true b e = absurd cc
 neither false true e = absurd cc
 neither false false e = (refl, refl)
 
-none_completed : (link xid : ℕ) (run : List Mark) → is_completed link xid run ≡ false → (c : CompletedCall) → Contains (completed_calls link run) c → c.xid ≢ xid
+pub none_completed : (link xid : ℕ) (run : List Mark) → is_completed link xid run ≡ false → (c : CompletedCall) → Contains (completed_calls link run) c → c.xid ≢ xid
 none_completed link xid run none c h same = absurd (true_not (sym (passes_any (λ (x : CompletedCall). eqb x.xid xid) (completed_calls link run) c h (eq-eqb c.xid xid same)) ∙ none))
   where
     true_not : true ≡ false → ⊥
@@ -419,198 +572,90 @@ handed o link run c e =
       is_received = own.0;
     }
 
-pub lawful_handing : (o : LinkParameters) (link : ℕ) (c : Option CompletedCall) (d : Drill) → slice_get (outcomes_due o link d.marks) 0 ≡ c → IsLawful o link d.marks →
+pub lawful_handing : (o : LinkParameters) (link : ℕ) (c : Option CompletedCall) (d : Drill) → slice_get (outcomes_due o link d.marks) 0 ≡ c → NoneAgain o link d.marks → IsLawful o link d.marks →
     IsLawful o link (after_handing link c d).marks
-lawful_handing o link None d e h = h
-lawful_handing o link (Some c) d e h =
-    lawful_mark o link d.marks (marks.Done link c.xid c.outcome) h refl refl (λ same. handed o link d.marks c e) tt tt
+lawful_handing o link None d e none h = h
+lawful_handing o link (Some c) d e none h =
+    lawful_mark o link d.marks (marks.Done link c.xid c.outcome) h refl refl (λ same. handed o link d.marks c e) tt tt (λ same. none)
 
-lawful_dones : (s : Setting) (link n : ℕ) (d : Drill) → IsLawful (s.opened link) link d.marks → IsLawful (s.opened link) link (after_dones s link n d).marks
+handing_none : (o : LinkParameters) (link : ℕ) (c : Option CompletedCall) (d : Drill) → NoneAgain o link d.marks → NoneAgain o link (after_handing link c d).marks
+handing_none o link None d none = none
+handing_none o link (Some c) d none = again_mark o link d.marks (marks.Done link c.xid c.outcome) tt none
+
+-- the laws of a link of whose calls none can be sent again
+pub record AreSent (o : LinkParameters) (link : ℕ) (run : List Mark) : Type 0 where
+  pub lawful : IsLawful o link run
+  pub none : NoneAgain o link run
+
+pub lawful_dones : (s : Setting) (link n : ℕ) (d : Drill) → AreSent (s.opened link) link d.marks → AreSent (s.opened link) link (after_dones s link n d).marks
 unfolding after_done
 lawful_dones s link zero d h = h
 lawful_dones s link (suc n) d h =
-    lawful_dones s link n (after_done s link d) (lawful_handing (s.opened link) link (slice_get (outcomes_due (s.opened link) link d.marks) 0) d refl h)
+    let o = s.opened link in
+    let first = slice_get (outcomes_due o link d.marks) 0 in
+    lawful_dones s link n (after_done s link d) (record { lawful = lawful_handing o link first d refl h.none h.lawful; none = handing_none o link first d h.none })
 
-pub lawful_after_down : (s : Setting) (link n : ℕ) (d : Drill) → IsFirstLink (s.opened link) → Keeps s link d → Keeps s link (after_down s link n d)
-unfolding after_outcomes
-lawful_after_down s link n d first h =
+-- each call that can be sent again is
+sent_all : (o : LinkParameters) (link : ℕ) (run : List Mark) (cs : List WaitingCall) → IsOpened o → IsLawful o link run → calls_to_resend (client o link run) ≡ cs → AreSent o link (run ++ map (resend_mark link) cs)
+sent_all o link run [] numbers h is = subst (AreSent o link) (sym (append-nil run)) (record { lawful = h; none = is })
+sent_all o link run (w ∷ cs) numbers h is =
+    let mark : Mark = resend_mark link w in
+    subst (AreSent o link) (append_assoc run (mark ∷ []) (map (resend_mark link) cs))
+    (sent_all o link (run ++ mark ∷ []) cs numbers
+    (lawful_mark o link run mark h refl refl (λ same. accepted o link run numbers (asked_so_far o link run h) w cs is) tt (λ same. inr (record { call = w; calls = cs; first = is; own = refl })) tt)
+    (resent_next o link run w cs is))
+
+pub lawful_resends : (s : Setting) (link : ℕ) (d : Drill) → IsOpened (s.opened link) → IsLawful (s.opened link) link d.marks → AreSent (s.opened link) link (after_resends s link d).marks
+unfolding after_resends
+lawful_resends s link d numbers h = sent_all (s.opened link) link d.marks (calls_to_resend (client (s.opened link) link d.marks)) numbers h refl
+
+pub lawful_after_down : (s : Setting) (link n : ℕ) (d : Drill) → IsOpened (s.opened link) → Keeps s link d → Keeps s link (after_down s link n d)
+unfolding after_down after_outcomes
+lawful_after_down s link n d numbers h =
     let o = s.opened link in
     let pipes = pipes_of link d in
     let fed = after_feeding_down link n d in
-    let h = lawful_fed s link Initiator (take n pipes.down) (record pipes { down = drop n pipes.down }) d h.0 in
-    subst (Keeps s link) (sym (down_is s link n d first)) (lawful_settled s link (after_outcomes s link fed) (lawful_dones s link (length (outcomes_due o link fed.marks)) fed h))
+    let sent = after_resends s link fed in
+    let all = lawful_resends s link fed numbers (lawful_fed s link Initiator (take n pipes.down) (record pipes { down = drop n pipes.down }) d h.2 h.0) in
+    let handed = lawful_dones s link (length (outcomes_due o link sent.marks)) sent all in
+    lawful_settled s link (after_outcomes s link sent) handed.none handed.lawful
 
 -- ===== calls are given up
 
-abbrev accepted_xid : Submission → ℕ → ℕ
-accepted_xid (submissions.Accepted xid) other = xid
-accepted_xid (submissions.Refused why) other = other
-accepted_xid submissions.Dropped other = other
+-- a call that is open on a link is one of its client's, which may wait to be sent again
+abbrev pub OpenIsAwaited : Setting → ℕ → Drill → Type 0
+OpenIsAwaited s link d = (number xid : ℕ) → open_xid s link d.marks (answer_of_line s (client_of s link) number d.marks) ≡ Some xid → IsAwaitedOrWaits (s.opened link) link d.marks xid
 
-open_parts : (a b c : Bool) → not (a || b) && c ≡ true → (a ≡ false) × (b ≡ false) × (c ≡ true)
-open_parts true b c e = absurd cc
-open_parts false true c e = absurd cc
-open_parts false false true e = (refl, refl, refl)
-open_parts false false false e = absurd cc
+lawful_giving_up : (s : Setting) (link number : ℕ) (xid : Option ℕ) (d : Drill) → OpenIsAwaited s link d → open_xid s link d.marks (answer_of_line s (client_of s link) number d.marks) ≡ xid →
+    NoneAgain (s.opened link) link d.marks → IsLawful (s.opened link) link d.marks → IsLawful (s.opened link) link (after_giving_up link xid d).marks
+lawful_giving_up s link number None d awaited e none h = h
+lawful_giving_up s link number (Some xid) d awaited e none h =
+    lawful_mark (s.opened link) link d.marks (marks.Forget link xid) h refl refl (λ same. awaited number xid e) tt tt (λ same. none)
 
--- what settles a call on a link settles it for its client
-neither_of : (a b : Bool) → a || b ≡ false → (a ≡ false) × (b ≡ false)
-neither_of true b e = absurd cc
-neither_of false b e = (refl, e)
-
-own_call : (s : Setting) (link l x xid : ℕ) → client_of s l == client_of s link && x == xid ≡ false → eqb l link && eqb x xid ≡ false
-own_call s link l x xid off = by (eqb l link) refl
-  where
-    by : (b : Bool) → eqb l link ≡ b → b && eqb x xid ≡ false
-    by true is =
-        let same : client_of s l == client_of s link ≡ true = eq-eqb (client_of s l) (client_of s link) (ap (client_of s) (eqb-true l link is)) in
-        sym (ap (λ (b : Bool). b && eqb x xid) same) ∙ off
-    by false is = refl
-
-not_settled : (s : Setting) (link xid : ℕ) (mark : Mark) → settles s (client_of s link) xid mark ≡ false → (list_any (λ (c : CompletedCall). eqb c.xid xid) (completed_at link mark) ≡ false) × (abandons link xid mark ≡ false)
-not_settled s link xid (marks.Done l x outcome) off = by (eqb l link) (own_call s link l x xid off)
-  where
-    or_nothing : (b : Bool) → b ≡ false → b || false ≡ false
-    or_nothing true e = e
-    or_nothing false e = refl
-
-    by : (b : Bool) → b && eqb x xid ≡ false → (list_any (λ (c : CompletedCall). eqb c.xid xid) (cond b (record { xid = x; outcome = outcome } ∷ []) []) ≡ false) × (false ≡ false)
-    by true off = (or_nothing (eqb x xid) off, refl)
-    by false off = (refl, refl)
-not_settled s link xid (marks.Forget l x) off = (refl, own_call s link l x xid off)
-not_settled s link xid (marks.Revoke l x bytes) off = (refl, own_call s link l x xid off)
-not_settled s link xid (marks.Lost l x) off = (refl, own_call s link l x xid off)
-not_settled s link xid (marks.Submit l call form answer) off = (refl, refl)
-not_settled s link xid (marks.Wrote l side bytes) off = (refl, refl)
-not_settled s link xid (marks.Fed l side bytes) off = (refl, refl)
-not_settled s link xid (marks.Execute l x moment payload place reply) off = (refl, refl)
-not_settled s link xid (marks.Drop l) off = (refl, refl)
-not_settled s link xid (marks.Told l what) off = (refl, refl)
-
-or_false : (a b : Bool) → a ≡ false → b ≡ false → a || b ≡ false
-or_false true b e f = e
-or_false false b e f = f
-
-any_both : {X : Type 0} (p : X → Bool) (xs ys : List X) → list_any p xs ≡ false → list_any p ys ≡ false → list_any p (xs ++ ys) ≡ false
-any_both p [] ys e f = f
-any_both p (x ∷ xs) ys e f = (let parts = neither_of (p x) (list_any p xs) e in or_false (p x) (list_any p (xs ++ ys)) parts.0 (any_both p xs ys parts.1 f))
-
-none_settles : (s : Setting) (link xid : ℕ) (run : List Mark) → list_any (settles s (client_of s link) xid) run ≡ false → (is_completed link xid run ≡ false) × (is_abandoned link xid run ≡ false)
-unfolding completed_calls
-none_settles s link xid [] off = (refl, refl)
-none_settles s link xid (mark ∷ run) off =
-    let parts = neither_of (settles s (client_of s link) xid mark) (list_any (settles s (client_of s link) xid) run) off in
-    let one = not_settled s link xid mark parts.0 in
-    let rest = none_settles s link xid run parts.1 in (
-      any_both (λ (c : CompletedCall). eqb c.xid xid) (completed_at link mark) (flat_map (completed_at link) run) one.0 rest.0,
-      or_false (abandons link xid mark) (list_any (abandons link xid) run) one.1 rest.1,
-    )
-
-accepted_in : (xid : ℕ) (answer : Submission) (call : Call) (form : Form) → Contains (answer ∷ []) (submissions.Accepted xid) → (a : AcceptedCall) × Contains (accepted_as answer call form) a × (a.xid ≡ xid)
-accepted_in xid answer call form h = by answer (one_in answer (submissions.Accepted xid) h)
-  where
-    by : (answer : Submission) → answer ≡ submissions.Accepted xid → (a : AcceptedCall) × Contains (accepted_as answer call form) a × (a.xid ≡ xid)
-    by (submissions.Accepted x) is =
-        let a : AcceptedCall = record { xid = x; call = call; form = form } in
-        (a, here a [] a refl, ap (λ (s : Submission). accepted_xid s x) is)
-    by (submissions.Refused why) is = absurd cc
-    by submissions.Dropped is = absurd cc
-
-both_of : (a b : Bool) → a && b ≡ true → (a ≡ true) × (b ≡ true)
-both_of true b e = (refl, e)
-both_of false b e = absurd cc
-
-accepted_of : (s : Setting) (link xid : ℕ) (mark : Mark) → AreFirst s → Contains (answer_at s (client_of s link) mark) (submissions.Accepted xid) →
-    (a : AcceptedCall) × Contains (accepted_at link mark) a × (a.xid ≡ xid)
-accepted_of s link xid (marks.Submit l call form answer) first h = by (client_of s l == client_of s link && not (is_sent_again s l answer)) refl h
-  where
-    here_too : client_of s l == client_of s link ≡ true → eqb l link ≡ true
-    here_too is = eq-eqb l link (sym (own_client s l (first.unnumbered l)) ∙ eqb-true (client_of s l) (client_of s link) is ∙ own_client s link (first.unnumbered link))
-
-    by : (b : Bool) → client_of s l == client_of s link && not (is_sent_again s l answer) ≡ b → Contains (cond b (answer ∷ []) []) (submissions.Accepted xid) →
-        (a : AcceptedCall) × Contains (cond (eqb l link) (accepted_as answer call form) []) a × (a.xid ≡ xid)
-    by true is h =
-        subst (λ (b : Bool). (a : AcceptedCall) × Contains (cond b (accepted_as answer call form) []) a × (a.xid ≡ xid))
-        (sym (here_too (both_of (client_of s l == client_of s link) (not (is_sent_again s l answer)) is).0)) (accepted_in xid answer call form h)
-    by false is h = none_in {W = (a : AcceptedCall) × Contains (cond (eqb l link) (accepted_as answer call form) []) a × (a.xid ≡ xid)} (submissions.Accepted xid) h
-accepted_of s link xid (marks.Wrote l side bytes) first h = none_in {W = (a : AcceptedCall) × Contains [] a × (a.xid ≡ xid)} (submissions.Accepted xid) h
-accepted_of s link xid (marks.Fed l side bytes) first h = none_in {W = (a : AcceptedCall) × Contains [] a × (a.xid ≡ xid)} (submissions.Accepted xid) h
-accepted_of s link xid (marks.Execute l x moment payload place reply) first h = none_in {W = (a : AcceptedCall) × Contains [] a × (a.xid ≡ xid)} (submissions.Accepted xid) h
-accepted_of s link xid (marks.Done l x outcome) first h = none_in {W = (a : AcceptedCall) × Contains [] a × (a.xid ≡ xid)} (submissions.Accepted xid) h
-accepted_of s link xid (marks.Lost l x) first h = none_in {W = (a : AcceptedCall) × Contains [] a × (a.xid ≡ xid)} (submissions.Accepted xid) h
-accepted_of s link xid (marks.Forget l x) first h = none_in {W = (a : AcceptedCall) × Contains [] a × (a.xid ≡ xid)} (submissions.Accepted xid) h
-accepted_of s link xid (marks.Revoke l x bytes) first h = none_in {W = (a : AcceptedCall) × Contains [] a × (a.xid ≡ xid)} (submissions.Accepted xid) h
-accepted_of s link xid (marks.Drop l) first h = none_in {W = (a : AcceptedCall) × Contains [] a × (a.xid ≡ xid)} (submissions.Accepted xid) h
-accepted_of s link xid (marks.Told l what) first h = none_in {W = (a : AcceptedCall) × Contains [] a × (a.xid ≡ xid)} (submissions.Accepted xid) h
-
-was_accepted : (s : Setting) (link xid : ℕ) (run : List Mark) → AreFirst s → Contains (flat_map (answer_at s (client_of s link)) run) (submissions.Accepted xid) →
-    (a : AcceptedCall) × Contains (accepted_calls link run) a × (a.xid ≡ xid)
-unfolding accepted_calls
-was_accepted s link xid [] first h = none_in {W = (a : AcceptedCall) × Contains [] a × (a.xid ≡ xid)} (submissions.Accepted xid) h
-was_accepted s link xid (mark ∷ run) first h =
-    by (was_accepted s link xid run first) (Contains-append_cases (answer_at s (client_of s link) mark) (flat_map (answer_at s (client_of s link)) run) (submissions.Accepted xid) h)
-  where
-    all : List AcceptedCall
-    all = flat_map (accepted_at link) run
-
-    by : (Contains (flat_map (answer_at s (client_of s link)) run) (submissions.Accepted xid) → (a : AcceptedCall) × Contains all a × (a.xid ≡ xid)) →
-        Contains (answer_at s (client_of s link) mark) (submissions.Accepted xid) ⊎ Contains (flat_map (answer_at s (client_of s link)) run) (submissions.Accepted xid) →
-        (a : AcceptedCall) × Contains (accepted_at link mark ++ all) a × (a.xid ≡ xid)
-    by more (inl one) = (let r = accepted_of s link xid mark first one in (r.0, Contains-append_left (accepted_at link mark) all r.0 r.1, r.2))
-    by more (inr h) = (let r = more h in (r.0, Contains-append_right (accepted_at link mark) all r.0 r.1, r.2))
-
--- an open call is one that is awaited
-open_awaited : (s : Setting) (link number xid : ℕ) (run : List Mark) → AreFirst s → answer_of_line s (client_of s link) number run ≡ Some (submissions.Accepted xid) → is_open s link xid run ≡ true → IsAwaited link run xid
-unfolding answer_of_line
-open_awaited s link number xid run first e is =
-    let parts = open_parts (is_dropped link run) (list_any (settles s (client_of s link) xid) run) (is_none (client (s.opened link) link run).ended) is in
-    let none = none_settles s link xid run parts.1 in
-    let a = was_accepted s link xid run first (got_in (flat_map (answer_at s (client_of s link)) run) (number - 1) (submissions.Accepted xid) e) in
-    record { asked = a.0; is_asked = a.1; own = a.2; first = none_completed link xid run none.0; kept = none.1 }
-
-opens_awaited : (s : Setting) (link number xid : ℕ) (run : List Mark) (answer : Option Submission) → AreFirst s → answer_of_line s (client_of s link) number run ≡ answer → open_xid s link run answer ≡ Some xid →
-    IsAwaitedOrWaits (s.opened link) link run xid
-opens_awaited s link number xid run (Some (submissions.Accepted x)) first is e = by (is_open s link x run) refl e
-  where
-    by : (b : Bool) → is_open s link x run ≡ b → cond b (Some x) None ≡ Some xid → IsAwaitedOrWaits (s.opened link) link run xid
-    by true so e =
-        awaited_or_waits (s.opened link) link run xid (subst (IsAwaited link run) (ap (λ (o : Option ℕ). unwrap_or o xid) e) (open_awaited s link number x run first is so))
-    by false so e = absurd cc
-opens_awaited s link number xid run (Some (submissions.Refused why)) first is e = absurd cc
-opens_awaited s link number xid run (Some submissions.Dropped) first is e = absurd cc
-opens_awaited s link number xid run None first is e = absurd cc
-
-lawful_giving_up : (s : Setting) (link number : ℕ) (xid : Option ℕ) (d : Drill) → AreFirst s → open_xid s link d.marks (answer_of_line s (client_of s link) number d.marks) ≡ xid → IsLawful (s.opened link) link d.marks →
-    IsLawful (s.opened link) link (after_giving_up link xid d).marks
-lawful_giving_up s link number None d first e h = h
-lawful_giving_up s link number (Some xid) d first e h =
-    lawful_mark (s.opened link) link d.marks (marks.Forget link xid) h refl refl
-    (λ same. opens_awaited s link number xid d.marks (answer_of_line s (client_of s link) number d.marks) first refl e) tt tt
-
-pub lawful_forget : (s : Setting) (link number : ℕ) (d : Drill) → AreFirst s → IsLawful (s.opened link) link d.marks → IsLawful (s.opened link) link (after_forget s link number d).marks
+pub lawful_forget : (s : Setting) (link number : ℕ) (d : Drill) → OpenIsAwaited s link d → NoneAgain (s.opened link) link d.marks → IsLawful (s.opened link) link d.marks → IsLawful (s.opened link) link (after_forget s link number d).marks
 unfolding after_forget
-lawful_forget s link number d first h = lawful_giving_up s link number (open_xid s link d.marks (answer_of_line s (client_of s link) number d.marks)) d first refl h
+lawful_forget s link number d awaited none h = lawful_giving_up s link number (open_xid s link d.marks (answer_of_line s (client_of s link) number d.marks)) d awaited refl none h
 
-lawful_taking_back : (s : Setting) (link number : ℕ) (xid : Option ℕ) (d : Drill) → AreFirst s → open_xid s link d.marks (answer_of_line s (client_of s link) number d.marks) ≡ xid → Keeps s link d →
+lawful_taking_back : (s : Setting) (link number : ℕ) (xid : Option ℕ) (d : Drill) → OpenIsAwaited s link d → open_xid s link d.marks (answer_of_line s (client_of s link) number d.marks) ≡ xid → Keeps s link d →
     Keeps s link (after_taking_back s link xid d)
-lawful_taking_back s link number None d first e h = h
-lawful_taking_back s link number (Some xid) d first e h =
+lawful_taking_back s link number None d awaited e h = h
+lawful_taking_back s link number (Some xid) d awaited e h =
     let o = s.opened link in
     let mark = marks.Revoke link xid (revoked_bytes o link d.marks xid) in
-    lawful_settled s link (with_mark mark d) (lawful_mark o link d.marks mark h.0 refl refl
-    (λ same. record { awaited = opens_awaited s link number xid d.marks (answer_of_line s (client_of s link) number d.marks) first refl e; bytes_are = refl }) tt tt)
+    lawful_settled s link (with_mark mark d) (again_mark o link d.marks mark (if_none_lem _ (MemoryRevoked _ xid ∷ []) (tt, tt)) h.2)
+    (lawful_mark o link d.marks mark h.0 refl refl (λ same. record { awaited = awaited number xid e; bytes_are = refl }) tt tt (λ same. h.2))
 
-pub lawful_revoke : (s : Setting) (link number : ℕ) (d : Drill) → AreFirst s → Keeps s link d → Keeps s link (after_revoke s link number d)
+pub lawful_revoke : (s : Setting) (link number : ℕ) (d : Drill) → OpenIsAwaited s link d → Keeps s link d → Keeps s link (after_revoke s link number d)
 unfolding after_revoke
-lawful_revoke s link number d first h = lawful_taking_back s link number (open_xid s link d.marks (answer_of_line s (client_of s link) number d.marks)) d first refl h
+lawful_revoke s link number d awaited h = lawful_taking_back s link number (open_xid s link d.marks (answer_of_line s (client_of s link) number d.marks)) d awaited refl h
 
 -- ===== a round on a link
 
-pub lawful_moves : (s : Setting) (link : ℕ) (d : Drill) → IsFirstLink (s.opened link) → Keeps s link d → Keeps s link (after_moves s link d)
+pub lawful_moves : (s : Setting) (link : ℕ) (d : Drill) → IsOpened (s.opened link) → Keeps s link d → Keeps s link (after_moves s link d)
 unfolding after_moves after_all_work
-lawful_moves s link d first h =
+lawful_moves s link d numbers h =
     let one = after_all_up s link d in
     let two = after_all_work s link one in
-    lawful_after_down s link (length (pipes_of link two).down) two first
+    lawful_after_down s link (length (pipes_of link two).down) two numbers
     (lawful_calls s link (length (server (s.opened link) link one.marks).state.ready) one
     (lawful_after_up s link (length (pipes_of link d).up) d h))

@@ -2,13 +2,11 @@
 -- tree in bytes.
 use Rattle.std.specs.Prelude.{option_map, ◌==◌, if◌then◌else◌, map}
 use Rattle.std.specs.List.{AllByRecursion}
-use Rattle.std.proofs.Common.{ℕ, List, [], ◌∷◌, ◌++◌, length, take, Result, refl, sym, ap, subst, append-nil, zero, suc, ◌≡◌, Bool, true, false, drop, Option, None, Some}
+use Rattle.std.proofs.Common.{ℕ, List, [], ◌∷◌, ◌++◌, length, take, Result, refl, sym, ap, subst, zero, suc, ◌≡◌, Bool, true, false, drop, Option, None, Some}
 use Rattle.nr_rpc.specs.declared.head.CallHead.{CallHead}
 use Rattle.nr_reduce.specs.declared.mark.Mark.{Mark}
 use Rattle.nr_reduce.specs.declared.mark.Mark.TheVariants as marks
 use Rattle.nr_reduce.specs.AtEachMark.{AtEachMark}
-use Rattle.nr_reduce.proofs.SoFarLaws.{AtEachMark_each}
-use Rattle.nr_laws.specs.Typed.{TypedMark}
 use Rattle.nr_laws.proofs.Basics.{each_append}
 use Rattle.nr_reduce.proofs.Calls.{executed_head}
 use Rattle.nr_plain.specs.Setup.{Setup}
@@ -16,15 +14,14 @@ use Rattle.nr_plain.specs.Replies.{Answer, answer_to, answer_by, plain_reply}
 use Rattle.nr_plain.specs.Journal.{state_of}
 use Rattle.nr_texts.specs.declared.opening.Opening.{Opening}
 use Rattle.nr_drill.specs.Drill.{plain_of, now, SerialServer, Setting, GivenReply, given, kept_reply, reply_by, standing_of, reply_given, journal_of}
-use Rattle.nr_drill.specs.Follows.{parameters_of, setting_of}
+use Rattle.nr_drill.specs.Follows.{setting_of}
 use Rattle.nr_drill.specs.DrillSetup.{drill_setup, server_of}
 use Rattle.nr_drill.specs.Drains.{AnswersCalls, AnswersInBytes}
 use Rattle.nr_byte_laws.specs.InBytes.{EntryInBytes, IsInBytes}
-use Rattle.nr_drill.specs.InBytes.{RepliedMark, RepliedInBytes, ExecutedMark, ExecutedInBytes}
-use Rattle.nr_drill.specs.Laws.{PlainServersAnswer, PlainServersAnswerInBytes, PlainRunsReplyInBytes, PlainDrainsEnd}
-use Rattle.nr_drill.proofs.ByteDrills.{script_bytes}
+use Rattle.nr_drill.specs.InBytes.{RepliedInBytes, ExecutedMark, ExecutedInBytes}
+use Rattle.nr_drill.specs.Laws.{PlainServersAnswer, PlainServersAnswerInBytes, PlainRunsReplyInBytes}
+use Rattle.nr_drill.proofs.ByteDrills.{byte_replied, script_bytes}
 use Rattle.nr_byte_laws.proofs.PlainBytes.{plain_reply_bytes, entries_bytes}
-use Rattle.nr_drill.proofs.LessRounds.{drains_end}
 use Rattle.nr_xdr.specs.Item.{IsBytes}
 use Rattle.nr_outside.specs.declared.moment.Moment.{Moment}
 use Rattle.nr_reduce.specs.declared.mark.Entry.{Entry}
@@ -32,11 +29,10 @@ use Rattle.nr_reduce.specs.declared.mark.TaggedEntry.{TaggedEntry}
 use Rattle.nr_reduce.specs.NumberedJournal.{Standing, entries_alone, tagged, standing_for, number_heard, added_by, tagged_by, tagged_from, tagged_journal, call_of_entry}
 use Rattle.nr_reduce.specs.NumberedJournal.Standing.{Old, Kept, New}
 use Rattle.nr_plain.specs.Added.{entries_of_call}
-use Rattle.nr_drill.proofs.Carried.{follows_made}
 
 pub plain_answers_calls : (setup : Setup) (opening : Opening) → AnswersCalls (setting_of (server_of setup) opening)
-plain_answers_calls setup opening link d call next =
-    let h = executed_head (parameters_of opening link) link d.marks call.xid call.payload (record { call = call; is_next = next; own = refl; conveyed = refl }) in
+plain_answers_calls setup opening opened link d call next =
+    let h = executed_head (opened link) link d.marks call.xid call.payload (record { call = call; is_next = next; own = refl; conveyed = refl }) in
     let J = entries_alone (journal_of (setting_of (server_of setup) opening) d.marks) in
     let st = state_of setup (take (length J) J) in (
       (answer_to setup.parameters st (now d) call.payload h.0).reply,
@@ -111,10 +107,10 @@ given_is moment place (Some reply) g e = ap reply_in e
 
 answers_in_bytes : (setup : Setup) (opening : Opening) → IsInBytes setup.tree → AnswersInBytes (setting_of (server_of setup) opening)
 unfolding reply_given
-answers_in_bytes setup opening is link d typed executed call g next e = by (standing_of s link d call) e
+answers_in_bytes setup opening is opened link d typed executed call g next e = by (standing_of s link d call) e
   where
     s : Setting
-    s = setting_of (server_of setup) opening
+    s = record { server = server_of setup; opened = opened }
 
     T : List TaggedEntry
     T = journal_of s d.marks
@@ -142,26 +138,9 @@ plain_answers tree opening = plain_answers_calls (drill_setup tree opening) open
 pub plain_answers_in_bytes : PlainServersAnswerInBytes
 plain_answers_in_bytes tree opening is = answers_in_bytes (drill_setup tree opening) opening is
 
-pub plain_drains_end : PlainDrainsEnd
-plain_drains_end tree script in_bytes is none before after cut raw mid made =
-    drains_end (server_of (drill_setup tree script.opening)) script is none (plain_answers_in_bytes tree script.opening in_bytes) (plain_answers tree script.opening) before after cut raw mid made
-
 -- ===== the replies of a run
 
-typed_replied : (before : List Mark) (mark : Mark) → TypedMark before mark → RepliedMark before mark
-typed_replied before (marks.Submit l call form answer) h = tt
-typed_replied before (marks.Wrote l side bytes) h = tt
-typed_replied before (marks.Fed l side bytes) h = tt
-typed_replied before (marks.Execute l xid moment payload place reply) h = h
-typed_replied before (marks.Done l xid outcome) h = tt
-typed_replied before (marks.Lost l xid) h = tt
-typed_replied before (marks.Forget l xid) h = tt
-typed_replied before (marks.Revoke l xid bytes) h = tt
-typed_replied before (marks.Drop l) h = tt
-typed_replied before (marks.Told l what) h = tt
-
 pub plain_runs_reply_in_bytes : PlainRunsReplyInBytes
-plain_runs_reply_in_bytes tree script run in_bytes is none follows =
+plain_runs_reply_in_bytes tree script run in_bytes is follows =
     let server = server_of (drill_setup tree script.opening) in
-    let last = script_bytes server script is none (plain_answers_in_bytes tree script.opening in_bytes) script.lines [] (sym (append-nil script.lines)) follows.last (follows_made server script run is none follows) in
-    subst RepliedInBytes (sym follows.marks_are) (AtEachMark_each TypedMark RepliedMark [] follows.last.marks typed_replied last.typed.typed)
+    subst RepliedInBytes (sym follows.marks_are) (byte_replied follows.last (script_bytes server script run is (plain_answers_in_bytes tree script.opening in_bytes) follows))

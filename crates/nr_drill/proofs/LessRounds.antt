@@ -1,46 +1,43 @@
 -- A drain ends, on links that run.
 use Rattle.std.specs.Prelude.{◌-◌, ◌&&◌, ◌<◌, ◌≤◌, is_none, slice_get, slice_index_or, filter, sum_by}
-use Rattle.std.specs.List.{list_all, AllByRecursion, range_with_len}
-use Rattle.std.proofs.Common.{◌≡◌, ◌≢◌, ℕ, zero, suc, ◌+◌, ◌*◌, ◌⊎◌, inl, inr, arith, Bool, true, false, List, [], ◌∷◌, ◌++◌, length, take, drop, Option, None, Some, refl, sym, ap, subst, ◌∙◌, append-nil, append_assoc, length-append}
+use Rattle.std.specs.List.{list_all, AllByRecursion}
+use Rattle.std.proofs.Common.{◌≡◌, ◌≢◌, ℕ, zero, suc, ◌+◌, ◌*◌, ◌⊎◌, inl, inr, arith, Bool, true, false, List, [], ◌∷◌, ◌++◌, length, map, take, drop, Option, None, Some, refl, sym, ap, subst, ◌∙◌, append-nil, append_assoc, length-append}
 use Rattle.nr_wire.specs.declared.hello.Side.TheVariants.{Initiator, Responder}
 use Rattle.nr_reduce.specs.declared.mark.Mark.{Mark}
 use Rattle.nr_reduce.specs.declared.mark.LinkParameters.{LinkParameters}
 use Rattle.nr_link.specs.declared.end.End.{End}
 use Rattle.nr_link.specs.Frames.{frames_completed}
 use Rattle.std.proofs.lemmas.List.{take_all}
+use Rattle.nr_reduce.specs.ClientState.{ClientState, WaitingCall}
+use Rattle.nr_reduce.specs.SubmitAnswer.{calls_to_resend}
+use Rattle.nr_reduce.specs.Opening.{IsOpened}
 use Rattle.nr_reduce.specs.OutcomesDue.{outcomes_due}
 use Rattle.nr_reduce.specs.History.{CompletedCall, bytes_sent, bytes_received, is_dropped}
 use Rattle.nr_reduce.specs.Events.{RunEvent}
-use Rattle.nr_reduce.specs.EndRules.{end_state_after}
+use Rattle.nr_reduce.specs.EndRules.{EndState, end_state_after}
 use Rattle.nr_reduce.specs.ServerState.{ReadyCall}
 use Rattle.nr_reduce.specs.Client.{client_rules}
 use Rattle.nr_reduce.specs.Server.{server_rules}
 use Rattle.nr_reduce.specs.Run.{client, server, output_due, end_of_side}
 use Rattle.nr_reduce.specs.Served.{next_call, first_ready}
 use Rattle.nr_reduce.proofs.Steps.{client_one, server_one}
-use Rattle.nr_drill.specs.Drill.{link_of, Setting, Drill, Pipes, empty_pipes, unwritten, pipes_of, settled, if_standing, waiting_call, after_feeding, after_up, after_outcomes, after_done, after_dones, after_handing, after_execution, after_work, after_calls, after_all_up, after_all_work, after_all_down, after_moves, after_round, GivenReply, given, reply_by, standing_of, reply_given, journal_of, now, after_call}
-use Rattle.nr_drill.specs.Follows.{is_empty, is_still, Drains, opened_drill}
+use Rattle.nr_drill.specs.Drill.{link_of, Setting, Drill, Pipes, empty_pipes, unwritten, pipes_of, settled, if_standing, waiting_call, resend_mark, after_feeding, after_resends, after_up, after_down, after_outcomes, after_done, after_dones, after_handing, after_execution, after_work, after_calls, after_all_up, after_all_work, after_all_down, after_moves, after_round}
+use Rattle.nr_drill.specs.Follows.{is_empty, is_still, Drains}
 use Rattle.nr_drill.specs.WorkLeft.{DrainStep, after_step, frame_len, is_send, send_bytes_left, work_left, stays, IsLess}
 use Rattle.nr_drill.specs.WorkLeft.DrainStep.{AllUp, Work, AllDown}
 use Rattle.nr_drill.specs.DrainSteps.{Moves}
-use Rattle.nr_drill.specs.Drains.{IsRunning, AnswersCalls, DrainsEnd}
-use Rattle.nr_drill.specs.Drill.{links_of}
-use Rattle.nr_drill.specs.Follows.{setting_of}
-use Rattle.nr_drill.proofs.ByteDrills.{IsByteDrill, next_of_lem, StepsKeepBytes, steps_keep_bytes, script_bytes}
-use Rattle.nr_drill.proofs.Followed.{Extends, no_event, moves_adds, IsFit, all_fit, opened_first_links, has_first_links}
-use Rattle.nr_drill.proofs.Carried.{same_here, settled_same, dones_keep}
-use Rattle.nr_drill.proofs.Lawful.{Keeps}
-use Rattle.nr_drill.proofs.LessWork.{same_due, executed_less}
+use Rattle.nr_drill.specs.Drains.{IsRunning}
+use Rattle.nr_drill.specs.Unnumbered.{Heard}
+use Rattle.nr_drill.proofs.ByteDrills.{IsByteDrill, next_of_lem}
+use Rattle.nr_drill.proofs.Followed.{Extends, no_event, elsewhere, moves_adds}
+use Rattle.nr_drill.proofs.Carried.{Carries, same_here, settled_same, dones_keep, carries_up, carries_work, carries_down, carries_elsewhere}
+use Rattle.nr_drill.proofs.Lawful.{Keeps, NoneAgain, lawful_after_up, lawful_work, lawful_after_down}
+use Rattle.nr_drill.proofs.LessWork.{same_due, work_less}
 use Rattle.nr_drill.proofs.LessSteps.{running_keeps, running_carries}
 use Rattle.nr_drill.proofs.LessUp.{up_less_lem}
 use Rattle.nr_drill.proofs.LessDown.{down_less_lem, outcomes_leave}
-use Rattle.nr_drill.proofs.LessScripts.{step_runs, other_runs, script_runs, all_front}
-use Rattle.nr_drill.proofs.FirstLinks.{opened_firsts, none_waiting, down_is}
-use Rattle.nr_drill.proofs.FirstLines.{NamesClient, all_name, made_first, first_drains}
-use Rattle.nr_reduce.specs.Opening.{IsFirstLink}
-use Rattle.nr_reduce.specs.NumberedJournal.{Standing, standing_for}
-use Rattle.nr_reduce.specs.NumberedJournal.Standing.{New}
-use Rattle.nr_drill.specs.Unnumbered.{AreFirst}
+use Rattle.nr_drill.proofs.Opening.{heard_by_lem}
+use Rattle.nr_drill.proofs.DrainedSteps.{running_from, step_adds}
 
 -- ===== the order
 
@@ -169,8 +166,40 @@ same_still s link old new a = λ i.
 abbrev Good : Setting → ℕ → Drill → Type 0
 Good s link d = IsRunning s link d × IsByteDrill d
 
-good_step : (s : Setting) → StepsKeepBytes s → (link : ℕ) (step : DrainStep) (d : Drill) → Good s link d → Good s link (after_step s link step d)
-good_step s types link step d g = (step_runs s link step d (types.first.on link) g.0, types.keeps link step d g.1)
+step_keeps : (s : Setting) (link : ℕ) (step : DrainStep) (d : Drill) → IsOpened (s.opened link) → Keeps s link d → Keeps s link (after_step s link step d)
+step_keeps s link AllUp d numbers h = lawful_after_up s link (length (pipes_of link d).up) d h
+step_keeps s link Work d numbers h = lawful_work s link d h
+step_keeps s link AllDown d numbers h = lawful_after_down s link (length (pipes_of link d).down) d numbers h
+
+step_carries : (s : Setting) (link : ℕ) (step : DrainStep) (d : Drill) → Keeps s link d → Carries link d → Carries link (after_step s link step d)
+step_carries s link AllUp d h c = carries_up s link (length (pipes_of link d).up) d h c
+step_carries s link Work d h c = carries_work s link d c
+step_carries s link AllDown d h c = carries_down s link (length (pipes_of link d).down) d h c
+
+running_heard : (s : Setting) (link : ℕ) (d : Drill) → IsRunning s link d → Heard (s.opened link) link d.marks
+running_heard s link d r = record { client = r.client_heard; server = r.server_heard; number = r.number }
+
+step_runs : (s : Setting) (link : ℕ) (step : DrainStep) (d : Drill) → IsOpened (s.opened link) → IsRunning s link d → IsRunning s link (after_step s link step d)
+step_runs s link step d numbers r =
+    let h = running_keeps s link d r in
+    running_from s link (after_step s link step d) (step_keeps s link step d numbers h) (step_carries s link step d h (running_carries s link d r))
+    (heard_by_lem (s.opened link) link link d (after_step s link step d) (step_adds s link step d) (running_heard s link d r))
+
+other_runs : (s : Setting) (link other : ℕ) (old new : Drill) → other ≢ link → link - 1 ≢ other - 1 → Extends other old new → IsRunning s link old → IsRunning s link new
+other_runs s link other old new ne apart x r =
+    let h = running_keeps s link old r in
+    let same = elsewhere (s.opened link) link other old.marks new.marks ne x.marks in
+    running_from s link new (same.lawful h.0, same.written h.0 h.1, ap (λ (k : EndState ClientState). calls_to_resend k) same.same_client ∙ h.2) (carries_elsewhere link other old new ne apart x (running_carries s link old r))
+    (heard_by_lem (s.opened link) link other old new x (running_heard s link old r))
+
+-- What is asked of a link: it was opened in range, steps of it keep what is written down bytes, and a call that waits is executed, or refused as old.
+pub record Fits (s : Setting) (link : ℕ) : Type 0 where
+  pub numbers : IsOpened (s.opened link)
+  pub keeps : (step : DrainStep) (d : Drill) → IsByteDrill d → IsByteDrill (after_step s link step d)
+  pub answers : (d : Drill) (call : ReadyCall) → IsRunning s link d → IsByteDrill d → waiting_call s link d.marks ≡ Some call → (after_work s link d).marks ≢ d.marks
+
+good_step : (s : Setting) (link : ℕ) → Fits s link → (step : DrainStep) (d : Drill) → Good s link d → Good s link (after_step s link step d)
+good_step s link f step d g = (step_runs s link step d f.numbers g.0, f.keeps step d g.1)
 
 idle_up : (s : Setting) (link : ℕ) (d : Drill) → IsRunning s link d → (pipes_of link d).up ≡ [] → after_all_up s link d ≡ d
 unfolding after_up
@@ -181,12 +210,12 @@ idle_up s link d r none =
     let nothing : take n up ≡ [] = take_all n up (omega arith) ∙ none in
     ap (λ (xs : List ℕ). settled s link (after_feeding link Responder xs rest d)) nothing ∙ settled_same s link d (running_keeps s link d r).1
 
-up_not_more : (s : Setting) (link : ℕ) (d : Drill) → IsFirstLink (s.opened link) → IsRunning s link d → NotMore (work_left s (after_all_up s link d) link) (work_left s d link)
-up_not_more s link d start r = by (pipes_of link d).up refl
+up_not_more : (s : Setting) (link : ℕ) (d : Drill) → IsRunning s link d → NotMore (work_left s (after_all_up s link d) link) (work_left s d link)
+up_not_more s link d r = by (pipes_of link d).up refl
   where
     by : (xs : List ℕ) → (pipes_of link d).up ≡ xs → NotMore (work_left s (after_all_up s link d) link) (work_left s d link)
     by [] e = inl (ap (λ (x : Drill). work_left s x link) (idle_up s link d r e))
-    by (b ∷ xs) e = inr (up_less_lem s link d start (running_keeps s link d r) r.room r.server_heard (λ none. some b xs (sym e ∙ none)))
+    by (b ∷ xs) e = inr (up_less_lem s link d (running_keeps s link d r) r.room r.server_heard (λ none. some b xs (sym e ∙ none)))
       where
         some : (b : ℕ) (xs : List ℕ) → b ∷ xs ≡ [] → ⊥
         some b xs x = absurd cc
@@ -200,9 +229,9 @@ dones_pipes s link (suc n) d = dones_pipes s link n (after_done s link d) ∙ by
     by None = refl
     by (Some c) = refl
 
-outcomes_left : (s : Setting) (link : ℕ) (d : Drill) → IsFirstLink (s.opened link) → Keeps s link d → work_left s (settled s link (after_outcomes s link d)) link ≡ work_left s d link
+outcomes_left : (s : Setting) (link : ℕ) (d : Drill) → Keeps s link d → work_left s (settled s link (after_outcomes s link d)) link ≡ work_left s d link
 unfolding after_outcomes work_left send_bytes_left end_of_side
-outcomes_left s link d start h =
+outcomes_left s link d h =
     let o = s.opened link in
     let n = length (outcomes_due o link d.marks) in
     let mid = after_dones s link n d in
@@ -211,7 +240,7 @@ outcomes_left s link d start h =
     let pipes = ap (λ (ps : List Pipes). slice_index_or ps (link - 1) empty_pipes) (dones_pipes s link n d) in
     ap (λ (x : Drill). work_left s x link) (settled_same s link mid kept.1)
     ∙ (λ i. (stays (leaves.client_end i) + stays (leaves.server_end i))
-    ∷ none_waiting o link d.marks mid.marks start i
+    ∷ length (leaves.waits i)
     ∷ sum_by frame_len (filter is_send (frames_completed Initiator (leaves.got i) ((pipes i).up ++ (kept.1.client ∙ sym h.1.client) i)))
     ∷ length (leaves.reads i)
     ∷ length (leaves.ready i)
@@ -219,21 +248,30 @@ outcomes_left s link d start h =
     ∷ length (pipes i).up
     ∷ [])
 
-idle_down : (s : Setting) (link : ℕ) (d : Drill) → IsFirstLink (s.opened link) → IsRunning s link d → (pipes_of link d).down ≡ [] → work_left s (after_all_down s link d) link ≡ work_left s d link
-idle_down s link d start r none =
+none_again : (s : Setting) (link : ℕ) (d : Drill) → NoneAgain (s.opened link) link d.marks → after_resends s link d ≡ d
+unfolding after_resends
+none_again s link d none =
+    ap (λ (ws : List WaitingCall). record d { marks = d.marks ++ map (resend_mark link) ws }) none ∙ ap (λ (run : List Mark). record d { marks = run }) (append-nil d.marks)
+
+nothing_down : (s : Setting) (link : ℕ) (d : Drill) → IsRunning s link d → (pipes_of link d).down ≡ [] → after_all_down s link d ≡ settled s link (after_outcomes s link d)
+unfolding after_down
+nothing_down s link d r none =
     let down = (pipes_of link d).down in
     let n = length down in
     let rest : Pipes = record (pipes_of link d) { down = drop n down } in
     let nothing : take n down ≡ [] = take_all n down (omega arith) ∙ none in
-    ap (λ (x : Drill). work_left s x link) (down_is s link n d start)
-    ∙ ap (λ (xs : List ℕ). work_left s (settled s link (after_outcomes s link (after_feeding link Initiator xs rest d))) link) nothing ∙ outcomes_left s link d start (running_keeps s link d r)
+    ap (λ (xs : List ℕ). settled s link (after_outcomes s link (after_resends s link (after_feeding link Initiator xs rest d)))) nothing
+    ∙ ap (λ (x : Drill). settled s link (after_outcomes s link x)) (none_again s link d (running_keeps s link d r).2)
 
-down_not_more : (s : Setting) → StepsKeepBytes s → (link : ℕ) (d : Drill) → Good s link d → NotMore (work_left s (after_all_down s link d) link) (work_left s d link)
-down_not_more s types link d g = by (pipes_of link d).down refl
+idle_down : (s : Setting) (link : ℕ) (d : Drill) → IsRunning s link d → (pipes_of link d).down ≡ [] → work_left s (after_all_down s link d) link ≡ work_left s d link
+idle_down s link d r none = ap (λ (x : Drill). work_left s x link) (nothing_down s link d r none) ∙ outcomes_left s link d (running_keeps s link d r)
+
+down_not_more : (s : Setting) (link : ℕ) → Fits s link → (d : Drill) → Good s link d → NotMore (work_left s (after_all_down s link d) link) (work_left s d link)
+down_not_more s link f d g = by (pipes_of link d).down refl
   where
     by : (xs : List ℕ) → (pipes_of link d).down ≡ xs → NotMore (work_left s (after_all_down s link d) link) (work_left s d link)
-    by [] e = inl (idle_down s link d (types.first.on link) g.0 e)
-    by (b ∷ xs) e = inr (down_less_lem s link d (types.first.on link) (running_keeps s link d g.0) (running_carries s link d g.0) g.0.client_heard (λ none. some b xs (sym e ∙ none)) (types.keeps link AllDown d g.1).typed.typed)
+    by [] e = inl (idle_down s link d g.0 e)
+    by (b ∷ xs) e = inr (down_less_lem s link d f.numbers (running_keeps s link d g.0) (running_carries s link d g.0) g.0.client_heard (λ none. some b xs (sym e ∙ none)) (f.keeps AllDown d g.1).typed.typed)
       where
         some : (b : ℕ) (xs : List ℕ) → b ∷ xs ≡ [] → ⊥
         some b xs x = absurd cc
@@ -244,55 +282,35 @@ work_idle : (s : Setting) (link : ℕ) (d : Drill) → waiting_call s link d.mar
 unfolding after_work
 work_idle s link d e = ap (λ (c : Option ReadyCall). after_execution s link c d) e
 
--- the server has a reply to each call that waits, if it is executed as a new one, and all calls are: the clients have no numbers
-pub record Answering (s : Setting) : Type 0 where
-  first : AreFirst s
-  each : AnswersCalls s
+work_of : (s : Setting) (link : ℕ) → Fits s link → (d : Drill) (call : ReadyCall) → Good s link d → waiting_call s link d.marks ≡ Some call → IsLess (work_left s (after_work s link d) link) (work_left s d link)
+work_of s link f d call g e = work_less s link d (running_keeps s link d g.0) g.0.room (f.answers d call g.0 g.1 e)
 
-is_new : (s : Setting) (link : ℕ) (d : Drill) (call : ReadyCall) → (s.opened link).client.number ≡ 0 → IsRunning s link d → standing_of s link d call ≡ New
-unfolding standing_of
-is_new s link d call none r = ap (λ (n : ℕ). standing_for (journal_of s d.marks) n call.xid) (r.number ∙ none)
-
-work_of : (s : Setting) → Answering s → (link : ℕ) (d : Drill) (call : ReadyCall) → IsRunning s link d → waiting_call s link d.marks ≡ Some call → IsLess (work_left s (after_work s link d) link) (work_left s d link)
-unfolding after_work waiting_call reply_given
-work_of s answers link d call r e =
-    let next = next_of_lem (is_dropped link d.marks) call (next_call (s.opened link) link d.marks) e in
-    let answer = answers.each link d call next in
-    let T = journal_of s d.marks in
-    let g : GivenReply = record { moment = now d; place = length T; reply = answer.0 } in
-    let new = is_new s link d call (answers.first.unnumbered link) r in
-    let given_is : reply_given s link d call ≡ Some g =
-    ap (λ (is : Standing). reply_by s.server T (now d) call.payload is) new ∙ ap (λ (reply : Option (List ℕ)). given (now d) (length T) reply) answer.1 in
-    subst (λ (x : Drill). IsLess (work_left s x link) (work_left s d link))
-    (sym (ap (λ (c : Option ReadyCall). after_execution s link c d) e ∙ (λ i. after_call s link call (new i) (given_is i) d)))
-    (executed_less s link call g d (answers.first.on link) (running_keeps s link d r) r.room next)
-
-work_not_more : (s : Setting) → Answering s → (link : ℕ) (d : Drill) → IsRunning s link d → NotMore (work_left s (after_work s link d) link) (work_left s d link)
-work_not_more s answers link d r = by (waiting_call s link d.marks) refl
+work_not_more : (s : Setting) (link : ℕ) → Fits s link → (d : Drill) → Good s link d → NotMore (work_left s (after_work s link d) link) (work_left s d link)
+work_not_more s link f d g = by (waiting_call s link d.marks) refl
   where
     by : (c : Option ReadyCall) → waiting_call s link d.marks ≡ c → NotMore (work_left s (after_work s link d) link) (work_left s d link)
     by None e = inl (ap (λ (x : Drill). work_left s x link) (work_idle s link d e))
-    by (Some call) e = inr (work_of s answers link d call r e)
+    by (Some call) e = inr (work_of s link f d call g e)
 
-calls_good : (s : Setting) → StepsKeepBytes s → (link n : ℕ) (d : Drill) → Good s link d → Good s link (after_calls s link n d)
-calls_good s types link zero d g = g
-calls_good s types link (suc n) d g = calls_good s types link n (after_work s link d) (good_step s types link Work d g)
+calls_good : (s : Setting) (link : ℕ) → Fits s link → (n : ℕ) (d : Drill) → Good s link d → Good s link (after_calls s link n d)
+calls_good s link f zero d g = g
+calls_good s link f (suc n) d g = calls_good s link f n (after_work s link d) (good_step s link f Work d g)
 
-calls_not_more : (s : Setting) → Answering s → (link n : ℕ) (d : Drill) → IsRunning s link d → NotMore (work_left s (after_calls s link n d) link) (work_left s d link)
-calls_not_more s answers link zero d r = inl refl
-calls_not_more s answers link (suc n) d r =
+calls_not_more : (s : Setting) (link : ℕ) → Fits s link → (n : ℕ) (d : Drill) → Good s link d → NotMore (work_left s (after_calls s link n d) link) (work_left s d link)
+calls_not_more s link f zero d g = inl refl
+calls_not_more s link f (suc n) d g =
     not_more_lem (work_left s (after_calls s link (suc n) d) link) (work_left s (after_work s link d) link) (work_left s d link)
-    (calls_not_more s answers link n (after_work s link d) (step_runs s link Work d (answers.first.on link) r)) (work_not_more s answers link d r)
+    (calls_not_more s link f n (after_work s link d) (good_step s link f Work d g)) (work_not_more s link f d g)
 
 calls_idle : (s : Setting) (link n : ℕ) (d : Drill) → waiting_call s link d.marks ≡ None → after_calls s link n d ≡ d
 calls_idle s link zero d e = refl
 calls_idle s link (suc n) d e = ap (λ (x : Drill). after_calls s link n x) (work_idle s link d e) ∙ calls_idle s link n d e
 
-calls_less : (s : Setting) → Answering s → (link n : ℕ) (d : Drill) (call : ReadyCall) → 0 < n → IsRunning s link d → waiting_call s link d.marks ≡ Some call → IsLess (work_left s (after_calls s link n d) link) (work_left s d link)
-calls_less s answers link zero d call some r e = absurd (omega (arith, some))
-calls_less s answers link (suc n) d call some r e =
+calls_less : (s : Setting) (link : ℕ) → Fits s link → (n : ℕ) (d : Drill) (call : ReadyCall) → 0 < n → Good s link d → waiting_call s link d.marks ≡ Some call → IsLess (work_left s (after_calls s link n d) link) (work_left s d link)
+calls_less s link f zero d call some g e = absurd (omega (arith, some))
+calls_less s link f (suc n) d call some g e =
     then_less (work_left s (after_calls s link (suc n) d) link) (work_left s (after_work s link d) link) (work_left s d link)
-    (calls_not_more s answers link n (after_work s link d) (step_runs s link Work d (answers.first.on link) r)) (work_of s answers link d call r e)
+    (calls_not_more s link f n (after_work s link d) (good_step s link f Work d g)) (work_of s link f d call g e)
 
 some_ready : (s : Setting) (link : ℕ) (d : Drill) (call : ReadyCall) → waiting_call s link d.marks ≡ Some call → 0 < length (server (s.opened link) link d.marks).state.ready
 unfolding waiting_call next_call
@@ -307,22 +325,22 @@ some_ready s link d call e =
 
 -- ===== all up, all calls, all down
 
-moves_good : (s : Setting) → StepsKeepBytes s → (link : ℕ) (d : Drill) → Good s link d → Good s link (after_moves s link d)
+moves_good : (s : Setting) (link : ℕ) → Fits s link → (d : Drill) → Good s link d → Good s link (after_moves s link d)
 unfolding after_moves after_all_work
-moves_good s types link d g =
+moves_good s link f d g =
     let one = after_all_up s link d in
     let n = length (server (s.opened link) link one.marks).state.ready in
-    good_step s types link AllDown (after_calls s link n one) (calls_good s types link n one (good_step s types link AllUp d g))
+    good_step s link f AllDown (after_calls s link n one) (calls_good s link f n one (good_step s link f AllUp d g))
 
-moves_not_more : (s : Setting) → StepsKeepBytes s → Answering s → (link : ℕ) (d : Drill) → Good s link d → NotMore (work_left s (after_moves s link d) link) (work_left s d link)
+moves_not_more : (s : Setting) (link : ℕ) → Fits s link → (d : Drill) → Good s link d → NotMore (work_left s (after_moves s link d) link) (work_left s d link)
 unfolding after_moves after_all_work
-moves_not_more s types answers link d g =
+moves_not_more s link f d g =
     let one = after_all_up s link d in
     let n = length (server (s.opened link) link one.marks).state.ready in
     let two = after_calls s link n one in
-    let g_one = good_step s types link AllUp d g in
-    not_more_lem (work_left s (after_all_down s link two) link) (work_left s two link) (work_left s d link) (down_not_more s types link two (calls_good s types link n one g_one))
-    (not_more_lem (work_left s two link) (work_left s one link) (work_left s d link) (calls_not_more s answers link n one g_one.0) (up_not_more s link d (types.first.on link) g.0))
+    let g_one = good_step s link f AllUp d g in
+    not_more_lem (work_left s (after_all_down s link two) link) (work_left s two link) (work_left s d link) (down_not_more s link f two (calls_good s link f n one g_one))
+    (not_more_lem (work_left s two link) (work_left s one link) (work_left s d link) (calls_not_more s link f n one g_one) (up_not_more s link d g.0))
 
 still_cases : (up down : List ℕ) (c : Option ReadyCall) → (is_empty up && (is_empty down && is_none c)) ≡ false →
     (up ≢ []) ⊎ ((up ≡ []) × (((call : ReadyCall) × (c ≡ Some call)) ⊎ ((c ≡ None) × (down ≢ []))))
@@ -332,9 +350,9 @@ still_cases [] [] None e = absurd cc
 still_cases [] (b ∷ down) None e = inr (refl, inr (refl, λ none. absurd cc))
 
 -- if something moves on the link
-moves_less : (s : Setting) → StepsKeepBytes s → Answering s → (link : ℕ) (d : Drill) → Good s link d → is_still s d link ≡ false → IsLess (work_left s (after_moves s link d) link) (work_left s d link)
+moves_less : (s : Setting) (link : ℕ) → Fits s link → (d : Drill) → Good s link d → is_still s d link ≡ false → IsLess (work_left s (after_moves s link d) link) (work_left s d link)
 unfolding after_moves after_all_work is_still
-moves_less s types answers link d g e = by (still_cases (pipes_of link d).up (pipes_of link d).down (waiting_call s link d.marks) e)
+moves_less s link f d g e = by (still_cases (pipes_of link d).up (pipes_of link d).down (waiting_call s link d.marks) e)
   where
     ready_after : Drill → ℕ
     ready_after x = length (server (s.opened link) link x.marks).state.ready
@@ -352,19 +370,19 @@ moves_less s types answers link d g e = by (still_cases (pipes_of link d).up (pi
     by : ((pipes_of link d).up ≢ []) ⊎ (((pipes_of link d).up ≡ []) × (((call : ReadyCall) × (waiting_call s link d.marks ≡ Some call)) ⊎ ((waiting_call s link d.marks ≡ None) × ((pipes_of link d).down ≢ [])))) → Goal one
     by (inl some) =
         let two = after_calls s link (ready_after one) one in
-        let g_one = good_step s types link AllUp d g in
+        let g_one = good_step s link f AllUp d g in
         then_less (work_left s (after_all_down s link two) link) (work_left s one link) (work_left s d link)
-        (not_more_lem (work_left s (after_all_down s link two) link) (work_left s two link) (work_left s one link) (down_not_more s types link two (calls_good s types link (ready_after one) one g_one)) (calls_not_more s answers link (ready_after one) one g_one.0))
-        (up_less_lem s link d (types.first.on link) (running_keeps s link d g.0) g.0.room g.0.server_heard some)
+        (not_more_lem (work_left s (after_all_down s link two) link) (work_left s two link) (work_left s one link) (down_not_more s link f two (calls_good s link f (ready_after one) one g_one)) (calls_not_more s link f (ready_after one) one g_one))
+        (up_less_lem s link d (running_keeps s link d g.0) g.0.room g.0.server_heard some)
     by (inr (none, inl (call, is))) =
         let two = after_calls s link (ready_after d) d in
         idle none
-        (then_less (work_left s (after_all_down s link two) link) (work_left s two link) (work_left s d link) (down_not_more s types link two (calls_good s types link (ready_after d) d g))
-        (calls_less s answers link (ready_after d) d call (some_ready s link d call is) g.0 is))
+        (then_less (work_left s (after_all_down s link two) link) (work_left s two link) (work_left s d link) (down_not_more s link f two (calls_good s link f (ready_after d) d g))
+        (calls_less s link f (ready_after d) d call (some_ready s link d call is) g is))
     by (inr (none, inr (waits, some))) =
         idle none
         (subst (λ (x : Drill). IsLess (work_left s (after_all_down s link x) link) (work_left s d link)) (sym (calls_idle s link (ready_after d) d waits))
-        (down_less_lem s link d (types.first.on link) (running_keeps s link d g.0) (running_carries s link d g.0) g.0.client_heard some (types.keeps link AllDown d g.1).typed.typed))
+        (down_less_lem s link d f.numbers (running_keeps s link d g.0) (running_carries s link d g.0) g.0.client_heard some (f.keeps AllDown d g.1).typed.typed))
 
 -- ===== a round
 
@@ -411,11 +429,11 @@ all_same s l (k ∷ links) d one others =
     let rest = all_same s l links d one others.1 in
     ((λ i. same_left_lem s k d (after_moves s l d) a i ++ rest.0 i), (λ i. same_still s k d (after_moves s l d) a i && rest.1 i))
 
-others_run : (s : Setting) (l : ℕ) (links : List ℕ) (d : Drill) → AreFirst s → 1 ≤ l → AllByRecursion (λ (k : ℕ). (1 ≤ k) × (k ≢ l)) links → AllRun s links d → AllRun s links (after_moves s l d)
-others_run s l [] d first one others r = tt
-others_run s l (k ∷ links) d first one others r = (
-  other_runs s k l d (after_moves s l d) (λ same. others.0.1 (sym same)) (apart_pipes k l others.0.0 one others.0.1) (moves_adds s l d) (first.on k) r.0,
-  others_run s l links d first one others.1 r.1,
+others_run : (s : Setting) (l : ℕ) (links : List ℕ) (d : Drill) → 1 ≤ l → AllByRecursion (λ (k : ℕ). (1 ≤ k) × (k ≢ l)) links → AllRun s links d → AllRun s links (after_moves s l d)
+others_run s l [] d one others r = tt
+others_run s l (k ∷ links) d one others r = (
+  other_runs s k l d (after_moves s l d) (λ same. others.0.1 (sym same)) (apart_pipes k l others.0.0 one others.0.1) (moves_adds s l d) r.0,
+  others_run s l links d one others.1 r.1,
 )
 
 -- the links of a round still run after it, and all that is written down is bytes
@@ -423,19 +441,22 @@ record RoundGood (s : Setting) (links : List ℕ) (new : Drill) : Type 0 where
   run : AllRun s links new
   typed : IsByteDrill new
 
-round_runs : (s : Setting) (link : ℕ) (links : List ℕ) (d : Drill) → AreFirst s → 1 ≤ link → AllByRecursion (λ (k : ℕ). (1 ≤ k) × (k ≢ link)) links → IsRunning s link d → IsRunning s link (after_round s links d)
-round_runs s link [] d first one others r = r
-round_runs s link (l ∷ links) d first one others r =
-    round_runs s link links (after_moves s l d) first one others.1
-    (other_runs s link l d (after_moves s l d) others.0.1 (λ same. apart_pipes l link others.0.0 one others.0.1 (sym same)) (moves_adds s l d) (first.on link) r)
+round_runs : (s : Setting) (link : ℕ) (links : List ℕ) (d : Drill) → 1 ≤ link → AllByRecursion (λ (k : ℕ). (1 ≤ k) × (k ≢ link)) links → IsRunning s link d → IsRunning s link (after_round s links d)
+round_runs s link [] d one others r = r
+round_runs s link (l ∷ links) d one others r =
+    round_runs s link links (after_moves s l d) one others.1
+    (other_runs s link l d (after_moves s l d) others.0.1 (λ same. apart_pipes l link others.0.0 one others.0.1 (sym same)) (moves_adds s l d) r)
 
-round_good : (s : Setting) → StepsKeepBytes s → (links : List ℕ) (d : Drill) → AreApart links → AllRun s links d → IsByteDrill d → RoundGood s links (after_round s links d)
-round_good s types [] d apart r t = record { run = tt; typed = t }
-round_good s types (l ∷ links) d apart r t =
+abbrev pub AllFit : Setting → List ℕ → Type 0
+AllFit s links = AllByRecursion (Fits s) links
+
+round_good : (s : Setting) (links : List ℕ) → AllFit s links → (d : Drill) → AreApart links → AllRun s links d → IsByteDrill d → RoundGood s links (after_round s links d)
+round_good s [] fits d apart r t = record { run = tt; typed = t }
+round_good s (l ∷ links) fits d apart r t =
     let mid = after_moves s l d in
-    let g = moves_good s types l d (r.0, t) in
-    let rest = round_good s types links mid apart.2 (others_run s l links d types.first apart.0 apart.1 r.1) g.1 in
-    record { run = (round_runs s l links mid types.first apart.0 apart.1 g.0, rest.run); typed = rest.typed }
+    let g = moves_good s l fits.0 d (r.0, t) in
+    let rest = round_good s links fits.1 mid apart.2 (others_run s l links d apart.0 apart.1 r.1) g.1 in
+    record { run = (round_runs s l links mid apart.0 apart.1 g.0, rest.run); typed = rest.typed }
 
 not_all : (a b : Bool) → a && b ≡ false → (a ≡ false) ⊎ (b ≡ false)
 not_all true b e = inr e
@@ -454,15 +475,15 @@ record RoundLess (s : Setting) (links : List ℕ) (d new : Drill) : Type 0 where
   not_more : NotMore (all_left s links new) (all_left s links d)
   less : list_all (is_still s d) links ≡ false → IsLess (all_left s links new) (all_left s links d)
 
-round_less : (s : Setting) → StepsKeepBytes s → Answering s → (links : List ℕ) (d : Drill) → AreApart links → AllRun s links d → IsByteDrill d → RoundLess s links d (after_round s links d)
-round_less s types answers [] d apart r t = record { not_more = inl refl; less = λ e. absurd (wrong e) }
+round_less : (s : Setting) (links : List ℕ) → AllFit s links → (d : Drill) → AreApart links → AllRun s links d → IsByteDrill d → RoundLess s links d (after_round s links d)
+round_less s [] fits d apart r t = record { not_more = inl refl; less = λ e. absurd (wrong e) }
   where
     wrong : true ≡ false → ⊥
     wrong e = absurd cc
-round_less s types answers (l ∷ links) d apart r t =
+round_less s (l ∷ links) fits d apart r t =
     let mid = after_moves s l d in
-    let g = moves_good s types l d (r.0, t) in
-    by (round_less s types answers links mid apart.2 (others_run s l links d types.first apart.0 apart.1 r.1) g.1)
+    let g = moves_good s l fits.0 d (r.0, t) in
+    by (round_less s links fits.1 mid apart.2 (others_run s l links d apart.0 apart.1 r.1) g.1)
   where
     mid : Drill
     mid = after_moves s l d
@@ -477,7 +498,7 @@ round_less s types answers (l ∷ links) d apart r t =
     same = all_same s l links d apart.0 apart.1
 
     front : NotMore (work_left s new l) (work_left s d l)
-    front = not_more_lem (work_left s new l) (work_left s mid l) (work_left s d l) (inl own) (moves_not_more s types answers l d (r.0, t))
+    front = not_more_lem (work_left s new l) (work_left s mid l) (work_left s d l) (inl own) (moves_not_more s l fits.0 d (r.0, t))
 
     by : RoundLess s links mid new → RoundLess s (l ∷ links) d new
     by rest = record {
@@ -488,7 +509,7 @@ round_less s types answers (l ∷ links) d apart r t =
         which : (is_still s d l ≡ false) ⊎ (list_all (is_still s d) links ≡ false) → IsLess (all_left s (l ∷ links) new) (all_left s (l ∷ links) d)
         which (inl moves) =
             less_front (work_left s new l) (work_left s d l) (all_left s links new) (all_left s links d)
-            (subst (λ (x : List ℕ). IsLess x (work_left s d l)) (sym own) (moves_less s types answers l d (r.0, t) moves))
+            (subst (λ (x : List ℕ). IsLess x (work_left s d l)) (sym own) (moves_less s l fits.0 d (r.0, t) moves))
         which (inr later) =
             later_list (work_left s new l) (work_left s d l) (all_left s links new) (all_left s links d) front
             (subst (λ (x : List ℕ). IsLess (all_left s links new) x) same.0 (rest.less (same.1 ∙ later)))
@@ -507,9 +528,9 @@ Ends : Setting → List ℕ → Drill → Type 0
 Ends s links d = (rounds : ℕ) × (new : Drill) × Drains s links rounds d new
 
 -- If the server has a reply to each call that waits, and steps keep what is written down bytes: a number of rounds, and nothing moves on any of the links.
-pub drain_ends : (s : Setting) (links : List ℕ) → AreApart links → StepsKeepBytes s → Answering s → (d : Drill) → AllRun s links d → IsByteDrill d → (rounds : ℕ) × (new : Drill) × Drains s links rounds d new
+pub drain_ends : (s : Setting) (links : List ℕ) → AreApart links → AllFit s links → (d : Drill) → AllRun s links d → IsByteDrill d → (rounds : ℕ) × (new : Drill) × Drains s links rounds d new
 unfolding Ends
-drain_ends s links apart types answers d r t = by_less (7 * length links) P step (all_left s links d) (all_long s links d) d refl r t
+drain_ends s links apart fits d r t = by_less (7 * length links) P step (all_left s links d) (all_long s links d) d refl r t
   where
     P : List ℕ → Type 0
     P x = (d : Drill) → all_left s links d ≡ x → AllRun s links d → IsByteDrill d → Ends s links d
@@ -521,55 +542,19 @@ drain_ends s links apart types answers d r t = by_less (7 * length links) P step
         by true e = (zero, d, (e, refl))
         by false e =
             let new = after_round s links d in
-            let good = round_good s types links d apart r t in
-            let fewer = (round_less s types answers links d apart r t).less e in
+            let good = round_good s links fits d apart r t in
+            let fewer = (round_less s links fits d apart r t).less e in
             let rest = less (all_left s links new) (all_long s links new) (subst (λ (y : List ℕ). IsLess (all_left s links new) y) is fewer) new refl good.run good.typed in
             (suc rest.0, rest.1, (e, rest.2))
 
--- ===== of a script
-
-range_others : (low from n : ℕ) → low < from → AllByRecursion (λ (k : ℕ). (1 ≤ k) × (k ≢ low)) (range_with_len from n)
-range_others low from zero lt = tt
-range_others low from (suc n) lt = ((omega (arith, lt), λ same. absurd (omega (arith, lt, same))), range_others low (from + 1) n (omega (arith, lt)))
-
-range_apart : (from n : ℕ) → 1 ≤ from → AreApart (range_with_len from n)
-range_apart from zero some = tt
-range_apart from (suc n) some = (some, range_others from (from + 1) n (omega arith), range_apart (from + 1) n (omega (arith, some)))
-
-range_all : (P : ℕ → Type 0) (most from n : ℕ) → ((l : ℕ) → 1 ≤ l → l ≤ most → P l) → 1 ≤ from → from + n ≤ most + 1 → AllByRecursion P (range_with_len from n)
-range_all P most from zero h some le = tt
-range_all P most from (suc n) h some le = (h from some (omega (arith, le)), range_all P most (from + 1) n h (omega (arith, some)) (omega (arith, le)))
-
-pub drains_end : DrainsEnd
-drains_end server script is none replies answers before after cut raw mid made =
-    let s = setting_of server script.opening in
-    let clients = script.opening.clients in
-    let firsts = opened_firsts server script.opening none in
-    let types = steps_keep_bytes s firsts replies in
-    let fit = all_front (IsFit s) before after (subst (AllByRecursion (IsFit s)) cut (all_fit server script is none)) in
-    let names = all_front NamesClient before after (subst (AllByRecursion NamesClient) cut (all_name script.opening [] script.lines is.follow_on)) in
-    let start = opened_first_links server script.opening none in
-    let at_mid = has_first_links server script before mid none fit made in
-    let first_made = made_first server script.opening before (opened_drill server script.opening) mid start fit names made in
-    let ends = drain_ends s (links_of clients) (range_apart 1 clients (omega arith)) types (record { first = firsts; each = answers }) mid
-    (range_all (λ (l : ℕ). IsRunning s l mid) clients 1 clients (λ l low high. script_runs server script is none l (low, high) before after cut (raw l (low, high)) mid first_made) (omega arith) (omega arith))
-    (script_bytes server script is none replies before after cut mid first_made) in
-    (ends.0, ends.1, first_drains s clients ends.0 mid ends.1 at_mid.setting at_mid.last_links ends.2)
-
 -- ===== if no outcome is due, a step that adds a mark moves something
 
-idle_all : (s : Setting) (link : ℕ) (d : Drill) → IsFirstLink (s.opened link) → IsRunning s link d → outcomes_due (s.opened link) link d.marks ≡ [] → (pipes_of link d).down ≡ [] → after_all_down s link d ≡ d
+idle_all : (s : Setting) (link : ℕ) (d : Drill) → IsRunning s link d → outcomes_due (s.opened link) link d.marks ≡ [] → (pipes_of link d).down ≡ [] → after_all_down s link d ≡ d
 unfolding after_outcomes
-idle_all s link d start r due none =
-    let down = (pipes_of link d).down in
-    let n = length down in
-    let rest : Pipes = record (pipes_of link d) { down = drop n down } in
-    let nothing : take n down ≡ [] = take_all n down (omega arith) ∙ none in
-    down_is s link n d start
-    ∙ ap (λ (xs : List ℕ). settled s link (after_outcomes s link (after_feeding link Initiator xs rest d))) nothing
-    ∙ ap (λ (cs : List CompletedCall). settled s link (after_dones s link (length cs) d)) due ∙ settled_same s link d (running_keeps s link d r).1
+idle_all s link d r due none =
+    nothing_down s link d r none ∙ ap (λ (cs : List CompletedCall). settled s link (after_dones s link (length cs) d)) due ∙ settled_same s link d (running_keeps s link d r).1
 
-pub moves_if : (s : Setting) (link : ℕ) (step : DrainStep) (d : Drill) → IsFirstLink (s.opened link) → IsRunning s link d → outcomes_due (s.opened link) link d.marks ≡ [] → (after_step s link step d).marks ≢ d.marks → Moves s link step d
-moves_if s link AllUp d start r due moved = λ none. moved (ap (λ (x : Drill). x.marks) (idle_up s link d r none))
-moves_if s link Work d start r due moved = moved
-moves_if s link AllDown d start r due moved = λ none. moved (ap (λ (x : Drill). x.marks) (idle_all s link d start r due none))
+pub moves_if : (s : Setting) (link : ℕ) (step : DrainStep) (d : Drill) → IsRunning s link d → outcomes_due (s.opened link) link d.marks ≡ [] → (after_step s link step d).marks ≢ d.marks → Moves s link step d
+moves_if s link AllUp d r due moved = λ none. moved (ap (λ (x : Drill). x.marks) (idle_up s link d r none))
+moves_if s link Work d r due moved = moved
+moves_if s link AllDown d r due moved = λ none. moved (ap (λ (x : Drill). x.marks) (idle_all s link d r due none))

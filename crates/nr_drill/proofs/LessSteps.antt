@@ -23,14 +23,15 @@ running_keeps s link d r =
     let o = s.opened link in
     let up = all_due o link Initiator d.marks r.asked.written in
     let down = all_due o link Responder d.marks r.served.written in (
-      record { asked = r.asked.each; served = r.served.each; accepts = r.accepts; client = due_of o link Initiator d.marks [] up; server = due_of o link Responder d.marks [] down },
+      record { asked = r.asked.each; served = r.served.each; accepts = r.accepts; client = due_of o link Initiator d.marks [] up; server = due_of o link Responder d.marks [] down; resent = r.asked.resent },
       record { client = left_is o link Initiator d.marks [] up; server = left_is o link Responder d.marks [] down },
+      r.asked.none_left,
     )
 
 pub running_carries : (s : Setting) (link : ℕ) (d : Drill) → IsRunning s link d → Carries link d
 running_carries s link d r = record { matched = r.matched; room = r.room; carried = λ e. record { up = r.up e; down = r.down e }; gone = r.gone }
 
 pub steps_leave_less : StepsLeaveLess
-steps_leave_less s link AllUp old start r moves typed = up_less_lem s link old start (running_keeps s link old r) r.room r.server_heard moves
-steps_leave_less s link Work old start r moves typed = work_less s link old start (running_keeps s link old r) r.room moves
-steps_leave_less s link AllDown old start r moves typed = down_less_lem s link old start (running_keeps s link old r) (running_carries s link old r) r.client_heard moves typed
+steps_leave_less s link AllUp old numbers r moves typed = up_less_lem s link old (running_keeps s link old r) r.room r.server_heard moves
+steps_leave_less s link Work old numbers r moves typed = work_less s link old (running_keeps s link old r) r.room moves
+steps_leave_less s link AllDown old numbers r moves typed = down_less_lem s link old numbers (running_keeps s link old r) (running_carries s link old r) r.client_heard moves typed

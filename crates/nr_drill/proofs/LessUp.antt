@@ -30,7 +30,7 @@ use Rattle.nr_reduce.specs.History.{bytes_received}
 use Rattle.nr_reduce.specs.Events.{RunEvent}
 use Rattle.nr_reduce.specs.Events.RunEvent.{FrameReceived}
 use Rattle.nr_reduce.specs.EndRules.{EndState, live, end_state_after, next_end_state_by, output_for_all, output_for_by}
-use Rattle.nr_reduce.specs.ClientState.{ClientState}
+use Rattle.nr_reduce.specs.ClientState.{ClientState, WaitingCall}
 use Rattle.nr_reduce.specs.ServerState.{ServerState, PendingCall, PendingRead, ReadyCall}
 use Rattle.nr_reduce.specs.ServerReads.{open_reads, is_read}
 use Rattle.nr_reduce.specs.ServerMessages.{CallVerdict, by_payload, pending_payload, chunk_bytes}
@@ -43,10 +43,8 @@ use Rattle.nr_reduce.specs.Run.{client, server, end_of_side}
 use Rattle.nr_reduce.proofs.Steps.{ended_stays}
 use Rattle.nr_drill.specs.Drill.{Setting, Drill, Pipes, unwritten, after_output, settled, pipes_of, with_mark, with_pipes, after_feeding, after_feeding_up, after_up, after_all_up}
 use Rattle.nr_drill.specs.WorkLeft.{frame_len, is_send, is_send_segment, send_bytes_left, work_left, stays, IsLess}
-use Rattle.nr_drill.proofs.Lawful.{Keeps, lawful_mark, lawful_settled}
+use Rattle.nr_drill.proofs.Lawful.{Keeps, lawful_mark, lawful_settled, again_mark, other_side_lem}
 use Rattle.nr_drill.proofs.LessWork.{own, not_own, same_client, same_server, settled_leaves, settled_down, more_left, set_pipes, set_room, down_leaves_up}
-use Rattle.nr_reduce.specs.Opening.{IsFirstLink}
-use Rattle.nr_drill.proofs.FirstLinks.{none_waiting}
 
 -- ===== what a frame that is no Send makes of a server
 
@@ -253,10 +251,10 @@ none_completed side got = ap (λ (xs : List ℕ). drop (length (frames_of side g
 abbrev fed_up : ℕ → List ℕ → Drill → Drill
 fed_up link bytes d = with_pipes link (record (pipes_of link d) { up = [] }) (with_mark (marks.Fed link Responder bytes) d)
 
-fed_less : (s : Setting) (link : ℕ) (bytes : List ℕ) (d : Drill) → IsFirstLink (s.opened link) → Keeps s link d → link - 1 < length d.pipes → frames_of Initiator (bytes_received link Responder d.marks) ≢ [] →
+fed_less : (s : Setting) (link : ℕ) (bytes : List ℕ) (d : Drill) → Keeps s link d → link - 1 < length d.pipes → frames_of Initiator (bytes_received link Responder d.marks) ≢ [] →
     (pipes_of link d).up ≡ bytes → 0 < length bytes → IsLess (work_left s (settled s link (fed_up link bytes d)) link) (work_left s d link)
 unfolding work_left send_bytes_left end_of_side
-fed_less s link bytes d start h room heard waits some = by_end before.ended refl
+fed_less s link bytes d h room heard waits some = by_end before.ended refl
   where
     o : LinkParameters
     o = s.opened link
@@ -324,7 +322,10 @@ fed_less s link bytes d start h room heard waits some = by_end before.ended refl
         ∙ down_leaves_up link out mid (set_room link (record (pipes_of link d) { up = [] }) (with_mark mark d) room) ∙ ap (λ (p : Pipes). p.up) set
 
     kept : Keeps s link new
-    kept = lawful_settled s link mid (lawful_mark o link run mark h.0 refl refl tt tt tt)
+    kept = lawful_settled s link mid (again_mark o link run mark (other_side_lem (eqb link link) _) h.2) (lawful_mark o link run mark h.0 refl refl tt tt tt tt)
+
+    waiting : length (client o link new.marks).state.waiting ≡ length (client o link run).state.waiting
+    waiting = ap (λ (ws : List WaitingCall). length ws) ((settled_leaves s o link mid).waits ∙ ap (λ (r : EndState ClientState). r.state.waiting) (same_client o link run mark [] (not_own link down_events)))
 
     up_less : length (pipes_of link new).up < length (pipes_of link d).up
     up_less = omega (arith, some, ap (λ (xs : List ℕ). length xs) up, ap (λ (xs : List ℕ). length xs) waits)
@@ -367,8 +368,8 @@ fed_less s link bytes d start h room heard waits some = by_end before.ended refl
     by_sends same lower = by_send (no_send fs)
       where
         by_send : AllByRecursion (λ (f : Frame). is_send f ≡ false) fs ⊎ (0 < sum_by frame_len (filter is_send fs)) → IsLess (work_left s new link) (work_left s d link)
-        by_send (inr more) = inr (sides same, inr (none_waiting o link run new.marks start, inl (omega (arith, more, sent_before, sent_after))))
-        by_send (inl absent) = inr (sides same, inr (none_waiting o link run new.marks start, inr (sent_after ∙ sym (sent_before ∙ no_sum fs absent), by_frames (lower absent))))
+        by_send (inr more) = inr (sides same, inr (waiting, inl (omega (arith, more, sent_before, sent_after))))
+        by_send (inl absent) = inr (sides same, inr (waiting, inr (sent_after ∙ sym (sent_before ∙ no_sum fs absent), by_frames (lower absent))))
 
     by_after : before.ended ≡ None → (end : Option End) → after.ended ≡ end → IsLess (work_left s new link) (work_left s d link)
     by_after lives (Some end) is =
@@ -404,13 +405,13 @@ feeding_up link [] rest d some = absurd (some refl)
 feeding_up link (b ∷ bytes) rest d some = refl
 
 -- If the server has the client's hello and bytes wait for it, feeding it all of them leaves less work.
-pub up_less_lem : (s : Setting) (link : ℕ) (d : Drill) → IsFirstLink (s.opened link) → Keeps s link d → link - 1 < length d.pipes → frames_of Initiator (bytes_received link Responder d.marks) ≢ [] → (pipes_of link d).up ≢ [] →
+pub up_less_lem : (s : Setting) (link : ℕ) (d : Drill) → Keeps s link d → link - 1 < length d.pipes → frames_of Initiator (bytes_received link Responder d.marks) ≢ [] → (pipes_of link d).up ≢ [] →
     IsLess (work_left s (after_all_up s link d) link) (work_left s d link)
 unfolding after_up
-up_less_lem s link d start h room heard some =
+up_less_lem s link d h room heard some =
     let pipes = pipes_of link d in
     let n = length pipes.up in
     let all : take n pipes.up ≡ pipes.up = take_all n pipes.up (omega arith) in
     let is : after_feeding_up link n d ≡ fed_up link pipes.up d =
     (λ i. after_feeding link Responder (all i) (record pipes { up = drop-length pipes.up i }) d) ∙ feeding_up link pipes.up (record pipes { up = [] }) d some in
-    subst (λ (x : Drill). IsLess (work_left s (settled s link x) link) (work_left s d link)) (sym is) (fed_less s link pipes.up d start h room heard refl (no_bytes_less n pipes.up refl some))
+    subst (λ (x : Drill). IsLess (work_left s (settled s link x) link) (work_left s d link)) (sym is) (fed_less s link pipes.up d h room heard refl (no_bytes_less n pipes.up refl some))

@@ -15,7 +15,7 @@ use Rattle.nr_reduce.specs.History.{ExecutedCall, written_at, fed_at, bytes_rece
 use Rattle.nr_reduce.specs.Events.{RunEvent, events_at, if_own}
 use Rattle.nr_reduce.specs.Events.RunEvent.{CallExecuted, QueueWritten, ServerTold}
 use Rattle.nr_reduce.specs.EndRules.{EndState, end_state_after, output_for_all, next_end_state_by}
-use Rattle.nr_reduce.specs.ClientState.{ClientState}
+use Rattle.nr_reduce.specs.ClientState.{ClientState, WaitingCall}
 use Rattle.nr_reduce.specs.ServerState.{ServerState, PendingRead, ReadyCall}
 use Rattle.nr_reduce.specs.Client.{client_rules, client_end, client_output, client_state_after}
 use Rattle.nr_reduce.specs.Server.{server_rules, server_end, server_output, server_state_after, old_end}
@@ -26,11 +26,9 @@ use Rattle.nr_reduce.proofs.Standing.{itself, received_one}
 use Rattle.nr_laws.proofs.DistinctKeys.{any_append}
 use Rattle.nr_drill.specs.Drill.{Setting, Drill, Pipes, empty_pipes, unwritten, appended, after_output, after_all_output, settled, pipes_of, with_mark, with_pipes, if_standing, waiting_call, after_answer, after_execution, after_work, GivenReply, standing_of, reply_given, after_call}
 use Rattle.nr_drill.specs.WorkLeft.{frame_len, is_send, send_bytes_left, work_left, stays, IsLess}
-use Rattle.nr_drill.proofs.Lawful.{IsDueOf, Keeps, more_due, left_is, due_more, lawful_mark, lawful_settled}
-use Rattle.nr_reduce.specs.Opening.{IsFirstLink}
+use Rattle.nr_drill.proofs.Lawful.{IsDueOf, Keeps, again_mark, other_side_lem, more_due, left_is, due_more, lawful_mark, lawful_settled}
 use Rattle.nr_reduce.specs.NumberedJournal.{Standing}
 use Rattle.nr_reduce.specs.NumberedJournal.Standing.{Old, Kept, New}
-use Rattle.nr_drill.proofs.FirstLinks.{none_waiting}
 
 -- ===== what writing leaves
 
@@ -46,11 +44,12 @@ pub record Leaves (o : LinkParameters) (link : ℕ) (old new : List Mark) : Type
   pub due : output_due o link Initiator new ≡ output_due o link Initiator old
   pub due_down : output_due o link Responder new ≡ output_due o link Responder old
   pub accepted : (client o link new).state.sends ≡ (client o link old).state.sends
+  pub waits : (client o link new).state.waiting ≡ (client o link old).state.waiting
   pub sends : (server o link new).state.received.sends ≡ (server o link old).state.received.sends
   pub dropped : is_dropped link new ≡ is_dropped link old
 
 pub leaves_all : (o : LinkParameters) (link : ℕ) (run : List Mark) → Leaves o link run run
-leaves_all o link run = record { client_end = refl; server_end = refl; reads = refl; ready = refl; got = refl; heard = refl; due = refl; due_down = refl; accepted = refl; sends = refl; dropped = refl }
+leaves_all o link run = record { client_end = refl; server_end = refl; reads = refl; ready = refl; got = refl; heard = refl; due = refl; due_down = refl; accepted = refl; waits = refl; sends = refl; dropped = refl }
 
 pub leaves_through : (o : LinkParameters) (link : ℕ) (a b c : List Mark) → Leaves o link a b → Leaves o link b c → Leaves o link a c
 leaves_through o link a b c x y = record {
@@ -63,6 +62,7 @@ leaves_through o link a b c x y = record {
   due = y.due ∙ x.due;
   due_down = y.due_down ∙ x.due_down;
   accepted = y.accepted ∙ x.accepted;
+  waits = y.waits ∙ x.waits;
   sends = y.sends ∙ x.sends;
   dropped = y.dropped ∙ x.dropped;
 }
@@ -77,12 +77,13 @@ record SameWork (o : LinkParameters) (a b : EndState ServerState) (taken : ℕ) 
 record SameCalls (o : LinkParameters) (a : EndState ClientState) (event : RunEvent) : Type 0 where
   ended : (end_state_after (client_rules o) a (event ∷ [])).ended ≡ a.ended
   accepted : (end_state_after (client_rules o) a (event ∷ [])).state.sends ≡ a.state.sends
+  waits : (end_state_after (client_rules o) a (event ∷ [])).state.waiting ≡ a.state.waiting
   quiet : output_for_all (client_rules o) a (event ∷ []) ≡ []
 
 written_calls : (o : LinkParameters) (k : ClientState) (ended : Option End) (taken : ℕ) → SameCalls o (record { state = k; ended = ended }) (QueueWritten taken)
 unfolding client_end client_output client_state_after
-written_calls o k None taken = record { ended = refl; accepted = refl; quiet = refl }
-written_calls o k (Some end) taken = record { ended = refl; accepted = refl; quiet = refl }
+written_calls o k None taken = record { ended = refl; accepted = refl; waits = refl; quiet = refl }
+written_calls o k (Some end) taken = record { ended = refl; accepted = refl; waits = refl; quiet = refl }
 
 written_work : (o : LinkParameters) (k : ServerState) (ended : Option End) (taken : ℕ) →
     SameWork o (record { state = k; ended = ended }) (end_state_after (server_rules o) (record { state = k; ended = ended }) (QueueWritten taken ∷ [])) taken
@@ -153,6 +154,7 @@ wrote_leaves o link Initiator run bytes =
       due = same_due o link run mark (QueueWritten (length bytes) ∷ []) (own link (QueueWritten (length bytes) ∷ [])) w.quiet;
       due_down = same_due_down o link run mark [] (not_own link (QueueWritten (length bytes) ∷ [])) refl;
       accepted = ap (λ (r : EndState ClientState). r.state.sends) k ∙ w.accepted;
+      waits = ap (λ (r : EndState ClientState). r.state.waiting) k ∙ w.waits;
       sends = ap (λ (r : EndState ServerState). r.state.received.sends) s;
       dropped = no_drop link run mark refl;
     }
@@ -171,6 +173,7 @@ wrote_leaves o link Responder run bytes =
       due = same_due o link run mark [] (not_own link (QueueWritten (length bytes) ∷ [])) refl;
       due_down = same_due_down o link run mark (QueueWritten (length bytes) ∷ []) (own link (QueueWritten (length bytes) ∷ [])) w.quiet;
       accepted = ap (λ (r : EndState ClientState). r.state.sends) k;
+      waits = ap (λ (r : EndState ClientState). r.state.waiting) k;
       sends = ap (λ (r : EndState ServerState). r.state.received.sends) s ∙ w.sends;
       dropped = no_drop link run mark refl;
     }
@@ -191,6 +194,7 @@ done_leaves o link xid outcome run =
       due = same_due o link run mark [] refl refl;
       due_down = same_due_down o link run mark [] refl refl;
       accepted = ap (λ (r : EndState ClientState). r.state.sends) k;
+      waits = ap (λ (r : EndState ClientState). r.state.waiting) k;
       sends = ap (λ (r : EndState ServerState). r.state.received.sends) s;
       dropped = no_drop link run mark refl;
     }
@@ -262,10 +266,10 @@ waits_next : (dropped : Bool) (call : ReadyCall) (next : Option ReadyCall) → i
 waits_next true call next e = absurd cc
 waits_next false call next e = e
 
-pub executed_less : (s : Setting) (link : ℕ) (call : ReadyCall) (g : GivenReply) (d : Drill) → IsFirstLink (s.opened link) → Keeps s link d → link - 1 < length d.pipes → next_call (s.opened link) link d.marks ≡ Some call →
+pub executed_less : (s : Setting) (link : ℕ) (call : ReadyCall) (g : GivenReply) (d : Drill) → Keeps s link d → link - 1 < length d.pipes → next_call (s.opened link) link d.marks ≡ Some call →
     IsLess (work_left s (after_answer s link call (Some g) d) link) (work_left s d link)
 unfolding work_left send_bytes_left end_of_side next_call
-executed_less s link call g d start h room next =
+executed_less s link call g d h room next =
     let o = s.opened link in
     let run = d.marks in
     let mark = marks.Execute link call.xid g.moment call.payload g.place g.reply in
@@ -281,7 +285,7 @@ executed_less s link call g d start h room next =
     same_server o link run mark (event ∷ []) (own link (event ∷ []))
     ∙ (λ i. end_state_after (server_rules o) (record { state = server_before.state; ended = first.0 i }) (event ∷ [])) in
     let leaves = settled_leaves s o link mid in
-    let kept = lawful_settled s link mid (lawful_mark o link run mark h.0 refl refl tt (λ same. record { call = call; is_next = next; own = refl; conveyed = refl }) tt) in
+    let kept = lawful_settled s link mid (again_mark o link run mark (other_side_lem (eqb link link) _) h.2) (lawful_mark o link run mark h.0 refl refl tt (λ same. record { call = call; is_next = next; own = refl; conveyed = refl }) tt tt) in
     let none : unwritten o link Initiator mid.marks ≡ [] =
     more_left o link Initiator run mark refl h.0.client
     ∙ (λ i. h.1.client i ++ output_for_all (client_rules o) (client o link run) (not_own link (event ∷ []) i)) in
@@ -295,7 +299,7 @@ executed_less s link call g d start h room next =
     inr (
       (λ i. stays (client_end i) + stays (server_end i)),
       inr (
-        none_waiting o link run new.marks start,
+        ap (λ (ws : List WaitingCall). length ws) (leaves.waits ∙ ap (λ (r : EndState ClientState). r.state.waiting) client_is),
         inr (
           (λ i. sum_by frame_len (filter is_send (frames_completed Initiator (got i) (up i ++ (kept.1.client ∙ sym h.1.client) i)))),
           inr (
@@ -306,10 +310,10 @@ executed_less s link call g d start h room next =
       ),
     )
 
-answered_less : (s : Setting) (link : ℕ) (call : ReadyCall) (answer : Option GivenReply) (d : Drill) → IsFirstLink (s.opened link) → Keeps s link d → link - 1 < length d.pipes → next_call (s.opened link) link d.marks ≡ Some call →
+answered_less : (s : Setting) (link : ℕ) (call : ReadyCall) (answer : Option GivenReply) (d : Drill) → Keeps s link d → link - 1 < length d.pipes → next_call (s.opened link) link d.marks ≡ Some call →
     (after_answer s link call answer d).marks ≢ d.marks → IsLess (work_left s (after_answer s link call answer d) link) (work_left s d link)
-answered_less s link call None d start h room next moved = absurd (moved refl)
-answered_less s link call (Some g) d start h room next moved = executed_less s link call g d start h room next
+answered_less s link call None d h room next moved = absurd (moved refl)
+answered_less s link call (Some g) d h room next moved = executed_less s link call g d h room next
 
 -- ===== an old call ends its server
 
@@ -343,22 +347,22 @@ told_less s link call d next =
     let was : stays before.ended ≡ 1 = ap (λ (e : Option End). stays e) first.0 in
     inl (omega (arith, same, gone, was))
 
-call_less : (s : Setting) (link : ℕ) (call : ReadyCall) (is : Standing) (answer : Option GivenReply) (d : Drill) → IsFirstLink (s.opened link) → Keeps s link d → link - 1 < length d.pipes →
+call_less : (s : Setting) (link : ℕ) (call : ReadyCall) (is : Standing) (answer : Option GivenReply) (d : Drill) → Keeps s link d → link - 1 < length d.pipes →
     next_call (s.opened link) link d.marks ≡ Some call → (after_call s link call is answer d).marks ≢ d.marks → IsLess (work_left s (after_call s link call is answer d) link) (work_left s d link)
-call_less s link call (Old top) answer d start h room next moved = told_less s link call d next
-call_less s link call (Kept place) answer d start h room next moved = answered_less s link call answer d start h room next moved
-call_less s link call New answer d start h room next moved = answered_less s link call answer d start h room next moved
+call_less s link call (Old top) answer d h room next moved = told_less s link call d next
+call_less s link call (Kept place) answer d h room next moved = answered_less s link call answer d h room next moved
+call_less s link call New answer d h room next moved = answered_less s link call answer d h room next moved
 
-waiting_less : (s : Setting) (link : ℕ) (call : Option ReadyCall) (d : Drill) → IsFirstLink (s.opened link) → Keeps s link d → link - 1 < length d.pipes →
+waiting_less : (s : Setting) (link : ℕ) (call : Option ReadyCall) (d : Drill) → Keeps s link d → link - 1 < length d.pipes →
     if_standing (is_dropped link d.marks) (next_call (s.opened link) link d.marks) ≡ call →
     (after_execution s link call d).marks ≢ d.marks → IsLess (work_left s (after_execution s link call d) link) (work_left s d link)
-waiting_less s link None d start h room next moved = absurd (moved refl)
-waiting_less s link (Some call) d start h room next moved =
-    call_less s link call (standing_of s link d call) (reply_given s link d call) d start h room
+waiting_less s link None d h room next moved = absurd (moved refl)
+waiting_less s link (Some call) d h room next moved =
+    call_less s link call (standing_of s link d call) (reply_given s link d call) d h room
     (waits_next (is_dropped link d.marks) call (next_call (s.opened link) link d.marks) next) moved
 
 -- a call that is executed leaves less work, on any link
-pub work_less : (s : Setting) (link : ℕ) (d : Drill) → IsFirstLink (s.opened link) → Keeps s link d → link - 1 < length d.pipes → (after_work s link d).marks ≢ d.marks →
+pub work_less : (s : Setting) (link : ℕ) (d : Drill) → Keeps s link d → link - 1 < length d.pipes → (after_work s link d).marks ≢ d.marks →
     IsLess (work_left s (after_work s link d) link) (work_left s d link)
 unfolding after_work waiting_call
-work_less s link d start h room moved = waiting_less s link (waiting_call s link d.marks) d start h room refl moved
+work_less s link d h room moved = waiting_less s link (waiting_call s link d.marks) d h room refl moved

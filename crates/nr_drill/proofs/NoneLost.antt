@@ -1,8 +1,8 @@
 -- On each link that isn't dropped no byte that a side wrote is lost: it was received, or it waits, whatever else a script puts into the pipes.
 use Rattle.std.specs.Prelude.{◌-◌, slice_get, map}
-use Rattle.std.specs.List.{AllByRecursion}
+use Rattle.std.specs.List.{AllByRecursion, range_with_len}
 use Rattle.std.proofs.Common.{◌≡◌, ◌≢◌, ℕ, zero, suc, ◌+◌, ◌<◌, ◌≤◌, arith, eqb-true, Bool, true, false, eqb, List, [], ◌∷◌, ◌++◌, length, take, drop, Option, None, Some, refl, sym, ap, subst, ◌∙◌, append-nil, append_assoc}
-use Rattle.std.proofs.lemmas.List.{length-append, take-append-drop}
+use Rattle.std.proofs.lemmas.List.{length-append, length-replicate, take-append-drop}
 use Rattle.nr_wire.specs.declared.hello.Side.{Side}
 use Rattle.nr_wire.specs.declared.hello.Side.TheVariants.{Initiator, Responder}
 use Rattle.nr_reduce.specs.declared.call.Call.{Call}
@@ -18,21 +18,25 @@ use Rattle.nr_reduce.specs.OutcomesDue.{outcomes_due}
 use Rattle.nr_reduce.specs.Asked.{revoked_bytes}
 use Rattle.nr_reduce.specs.Run.{server, client}
 use Rattle.nr_reduce.proofs.Standing.{sent_one, received_one}
-use Rattle.nr_script.specs.declared.script.Line.{Line}
 use Rattle.nr_script.specs.declared.script.Line.TheVariants as lines
-use Rattle.nr_script.specs.Script.{ScriptLines, IsScript}
-use Rattle.nr_drill.specs.Drill.{SerialServer, Setting, Drill, Pipes, empty_pipes, unwritten, appended, after_output, after_all_output, settled, pipes_of, cred_of, with_mark, after_feeding, after_feeding_up, after_feeding_down, after_up, after_down, after_handing, after_done, after_dones, after_outcomes, after_submit, waiting_call, after_answer, after_execution, after_work, after_calls, after_all_up, after_all_work, after_moves, answer_of_line, open_xid, after_giving_up, after_forget, after_taking_back, after_revoke, after_drop, after_raw, after_round, after_opening, after_openings, start, links_of, after_grant, GivenReply, client_of, standing_of, reply_given, resend_mark, after_resends, after_call}
-use Rattle.nr_drill.specs.Follows.{Drains, Follows, setting_of, opened_drill}
-use Rattle.nr_drill.specs.Lines.{IsClient, IsUnnumbered}
+use Rattle.nr_script.specs.Script.{ScriptLines}
+use Rattle.nr_drill.specs.Lines.{IsDrillScript}
+use Rattle.nr_drill.specs.Drill.{SerialServer, Setting, Drill, Pipes, empty_pipes, unwritten, appended, after_output, after_all_output, settled, pipes_of, with_mark, after_feeding, after_feeding_up, after_feeding_down, after_up, after_down, after_handing, after_done, after_dones, after_outcomes, after_submit, waiting_call, after_answer, after_execution, after_work, after_calls, after_all_up, after_all_work, after_moves, answer_of_line, open_xid, after_giving_up, after_forget, after_taking_back, after_revoke, after_drop, after_raw, after_opening, after_openings, start, links_of, IsLink, last_link, setting_now, after_leaving, after_grant, GivenReply, client_of, standing_of, reply_given, resend_mark, after_resends, after_call}
+use Rattle.nr_drill.specs.Follows.{Follows, setting_of, opened_drill}
 use Rattle.nr_drill.proofs.Lawful.{own_written, up_written, down_written}
-use Rattle.nr_drill.proofs.Followed.{Extends, submit_adds, up_adds, down_adds, work_adds, forget_adds, revoke_adds, drop_adds, raw_adds, moves_adds, opening_adds, grant_adds}
-use Rattle.nr_drill.proofs.Carried.{same_dropped, same_sent, same_received, own_pipes, still_room, own_fed, up_fed, down_fed, dropped_at_last, IsSameHere, same_here, other_than, AreLinks, are_links, start_carries, follows_made}
-use Rattle.nr_drill.proofs.FirstLines.{NamesClient, all_name}
+use Rattle.nr_drill.proofs.Followed.{Extends, opening_adds}
+use Rattle.nr_drill.proofs.Carried.{same_dropped, same_sent, same_received, own_pipes, still_room, own_fed, up_fed, down_fed, dropped_at_last, IsSameHere, same_here, other_than}
+use Rattle.nr_drill.proofs.Actions.{Action, after_action, IsKept, AnyRaw, lines_of, all_act, lines_kept}
+use Rattle.nr_drill.proofs.Actions.Action.{SubmitCall, FeedUp, FeedDown, WorkOnce, ForgetCall, RevokeCall, DropLink, PutRaw, GrantCredits}
+use Rattle.nr_drill.proofs.Links.{none_sent, action_extends, link_of_same}
+use Rattle.nr_drill.proofs.BegunLinks.{Holds, IsBegun, begun_drill, next_link, begins_so, holds_kept, counted_most, replied_before, opened_count, first_then}
+use Rattle.nr_drill.specs.InBytes.{RepliedInBytes}
+use Rattle.nr_script.specs.Limits.{lines_max}
+use Rattle.nr_texts.specs.declared.opening.Opening.{Opening}
 use Rattle.nr_reduce.specs.NumberedJournal.{Standing}
 use Rattle.nr_reduce.specs.NumberedJournal.Standing.{Old, Kept, New}
 use Rattle.nr_reduce.specs.ClientState.{WaitingCall}
 use Rattle.nr_reduce.specs.Served.{last_frame_at}
-use Rattle.nr_drill.specs.Unnumbered.{first_line, FirstMakes, FirstMakeAll}
 
 pub record NoneLost (link : ℕ) (d : Drill) : Type 0 where
   pub room : link - 1 < length d.pipes
@@ -333,69 +337,133 @@ none_by acted link old new some one x own h = by (eqb acted link) refl
         let ne : acted ≢ link = other_than acted link is in
         none_elsewhere link acted old new ne (λ same. ne (let a = some in let b = one in let c = same in omega (arith, a, b, c))) x h
 
--- ===== lines
+-- ===== each action, and each link that begins
 
-none_line : (s : Setting) (link : ℕ) (line : Line) (d : Drill) → 1 ≤ link → NamesClient line → NoneLost link d → NoneLost link (first_line s line d)
-none_line s link (lines.Cred client cred) d one some h = record { room = h.room; up = h.up; down = h.down }
-none_line s link (lines.Call client form prog vers proc args) d one some h =
-    let call : Call = record { prog = prog; vers = vers; proc = proc; cred = cred_of client d; args = args } in
-    none_by client link d (after_submit s client call form d) some one (submit_adds s client call form d) (none_submit s client call form d) h
-none_line s link (lines.Up client most) d one some h = none_by client link d (after_up s client most d) some one (up_adds s client most d) (none_up s client most d) h
-none_line s link (lines.Down client most) d one some h = none_by client link d (after_down s client most d) some one (down_adds s client most d) (none_down s client most d) h
-none_line s link (lines.Work client) d one some h = none_by client link d (after_work s client d) some one (work_adds s client d) (none_work s client d) h
-none_line s link (lines.Tick seconds) d one some h = record { room = h.room; up = h.up; down = h.down }
-none_line s link (lines.Forget client number) d one some h = none_by client link d (after_forget s client number d) some one (forget_adds s client number d) (none_forget s client number d) h
-none_line s link (lines.Revoke client number) d one some h = none_by client link d (after_revoke s client number d) some one (revoke_adds s client number d) (none_revoke s client number d) h
-none_line s link (lines.Drop client) d one some h = none_by client link d (after_drop client d) some one (drop_adds client d) (none_drop client d) h
-none_line s link (lines.Rejoin client) d one some h = h
-none_line s link (lines.Raw client side bytes) d one some h =
-    let dropped = is_dropped client d.marks in
-    none_by client link d (after_raw client side bytes dropped d) some one (raw_adds client side bytes dropped d) (none_raw client side bytes dropped d) h
-none_line s link (lines.Grant client credits) d one some h = none_by client link d (after_grant client credits d) some one (grant_adds client credits d) (none_grant client credits d) h
-none_line s link lines.Drain d one some h = h
+none_acts : (s : Setting) (link : ℕ) (a : Action) (d : Drill) → NoneLost link d → NoneLost link (after_action s link a d)
+none_acts s link (SubmitCall call form) d h = none_submit s link call form d h
+none_acts s link (FeedUp n) d h = none_up s link n d h
+none_acts s link (FeedDown n) d h = none_down s link n d h
+none_acts s link WorkOnce d h = none_work s link d h
+none_acts s link (ForgetCall number) d h = none_forget s link number d h
+none_acts s link (RevokeCall number) d h = none_revoke s link number d h
+none_acts s link DropLink d h = none_drop link d h
+none_acts s link (PutRaw side bytes) d h = none_raw link side bytes (is_dropped link d.marks) d h
+none_acts s link (GrantCredits credits) d h = none_grant link credits d h
 
-none_round : (s : Setting) (link : ℕ) (links : List ℕ) (d : Drill) → 1 ≤ link → AreLinks links → NoneLost link d → NoneLost link (after_round s links d)
-none_round s link [] d one some h = h
-none_round s link (l ∷ links) d one some h =
-    none_round s link links (after_moves s l d) one some.1 (none_by l link d (after_moves s l d) some.0 one (moves_adds s l d) (none_moves s l d) h)
+abbrev pub LosesNothing : Drill → Type 0
+LosesNothing d = (link : ℕ) → IsLink d link → NoneLost link d
 
-none_drain : (s : Setting) (link : ℕ) (links : List ℕ) (rounds : ℕ) (old new : Drill) → 1 ≤ link → AreLinks links → Drains s links rounds old new → NoneLost link old → NoneLost link new
-none_drain s link links zero old new one some drains h = subst (NoneLost link) (sym drains.1) h
-none_drain s link links (suc rounds) old new one some drains h = none_drain s link links rounds (after_round s links old) new one some drains.1 (none_round s link links old one some h)
+begun_loses : (s : Setting) (c link : ℕ) (d : Drill) → IsBegun s c link d → LosesNothing d → LosesNothing (after_leaving s c link d)
+begun_loses s c link d b h = subst (λ (l : ℕ). LosesNothing (after_opening u l begun)) (sym b.is_last) all
+  where
+    begun : Drill
+    begun = begun_drill s c link d
 
-none_made : (s : Setting) (clients link : ℕ) (line : Line) (old new : Drill) → 1 ≤ link → NamesClient line → FirstMakes s clients line old new → NoneLost link old → NoneLost link new
-none_made s clients link (lines.Cred client cred) old new one n e h = subst (NoneLost link) (sym e) (none_line s link (lines.Cred client cred) old one n h)
-none_made s clients link (lines.Call client form prog vers proc args) old new one n e h = subst (NoneLost link) (sym e) (none_line s link (lines.Call client form prog vers proc args) old one n h)
-none_made s clients link (lines.Up client most) old new one n e h = subst (NoneLost link) (sym e) (none_line s link (lines.Up client most) old one n h)
-none_made s clients link (lines.Down client most) old new one n e h = subst (NoneLost link) (sym e) (none_line s link (lines.Down client most) old one n h)
-none_made s clients link (lines.Work client) old new one n e h = subst (NoneLost link) (sym e) (none_line s link (lines.Work client) old one n h)
-none_made s clients link (lines.Tick seconds) old new one n e h = subst (NoneLost link) (sym e) (none_line s link (lines.Tick seconds) old one n h)
-none_made s clients link (lines.Forget client number) old new one n e h = subst (NoneLost link) (sym e) (none_line s link (lines.Forget client number) old one n h)
-none_made s clients link (lines.Revoke client number) old new one n e h = subst (NoneLost link) (sym e) (none_line s link (lines.Revoke client number) old one n h)
-none_made s clients link (lines.Drop client) old new one n e h = subst (NoneLost link) (sym e) (none_line s link (lines.Drop client) old one n h)
-none_made s clients link (lines.Rejoin client) old new one n e h = subst (NoneLost link) (sym e) (none_line s link (lines.Rejoin client) old one n h)
-none_made s clients link (lines.Raw client side bytes) old new one n e h = subst (NoneLost link) (sym e) (none_line s link (lines.Raw client side bytes) old one n h)
-none_made s clients link (lines.Grant client credits) old new one n e h = subst (NoneLost link) (sym e) (none_line s link (lines.Grant client credits) old one n h)
-none_made s clients link lines.Drain old new one n e h = none_drain s link (links_of clients) e.0 old new one (are_links 1 clients (omega arith)) e.1 h
+    u : Setting
+    u = setting_now s begun
 
-none_lines : (s : Setting) (clients link : ℕ) (all : List Line) (old new : Drill) → 1 ≤ link → AllByRecursion NamesClient all → FirstMakeAll s clients all old new → NoneLost link old → NoneLost link new
-none_lines s clients link [] old new one n e h = subst (NoneLost link) (sym e) h
-none_lines s clients link (line ∷ others) old new one n e h = none_lines s clients link others e.0 new one n.1 e.2 (none_made s clients link line old e.0 one n.0 e.1 h)
+    next : ℕ
+    next = next_link d
 
-none_openings : (s : Setting) (link : ℕ) (links : List ℕ) (d : Drill) → 1 ≤ link → AreLinks links → NoneLost link d → NoneLost link (after_openings s links d)
+    x : Extends next begun (after_opening u next begun)
+    x = opening_adds u next begun
+
+    fresh : NoneLost next begun
+    fresh =
+        let sent = none_sent next d.marks b.apart in
+        let sent_up : length (bytes_sent next Initiator d.marks) ≡ 0 = ap (λ (xs : List ℕ). length xs) sent.0 in
+        let sent_down : length (bytes_sent next Responder d.marks) ≡ 0 = ap (λ (xs : List ℕ). length xs) sent.1 in
+        record { room = b.room; up = λ e. omega (arith, sent_up); down = λ e. omega (arith, sent_down) }
+
+    older : (l : ℕ) → IsLink d l → NoneLost l begun
+    older l is =
+        let k = h l is in
+        let old : pipes_of l begun ≡ pipes_of l d = b.old_pipes l is in
+        let waits_up : length (pipes_of l begun).up ≡ length (pipes_of l d).up = ap (λ (p : Pipes). length p.up) old in
+        let waits_down : length (pipes_of l begun).down ≡ length (pipes_of l d).down = ap (λ (p : Pipes). length p.down) old in
+        let room = k.room in
+        let longer = b.longer in
+        record {
+          room = omega (arith, room, longer);
+          up = λ e. (let up = k.up e in omega (arith, up, waits_up));
+          down = λ e. (let down = k.down e in omega (arith, down, waits_down));
+        }
+
+    all : LosesNothing (after_opening u next begun)
+    all l is = by (eqb l next) refl
+      where
+        was : IsLink begun l
+        was = link_of_same begun (after_opening u next begun) l x.opened is
+
+        by : (e : Bool) → eqb l next ≡ e → NoneLost l (after_opening u next begun)
+        by true e = subst (λ (m : ℕ). NoneLost m (after_opening u next begun)) (sym (eqb-true l next e)) (none_opening u next begun fresh)
+        by false e =
+            let ne : l ≢ next = other_than l next e in
+            none_by next l begun (after_opening u next begun) b.is_link.0 is.0 x (λ k. none_opening u next begun k) (older l (b.was_link l ne was))
+
+-- ===== all lines
+
+abbrev LosesThen : Setting → Opening → ℕ → Drill → Type 0
+LosesThen s opening n d = Holds s opening n d × (n ≤ lines_max → RepliedInBytes d.marks → LosesNothing d)
+
+loses_kept : (s : Setting) (opening : Opening) → IsKept s opening AnyRaw AnyRaw (LosesThen s opening)
+loses_kept s opening =
+    let k = holds_kept s opening AnyRaw AnyRaw in
+    record {
+      count = λ n d p. k.count n d p.0;
+      later = λ n d p. (k.later n d p.0, λ le replied. p.1 (omega (arith, le)) replied);
+      credential = λ n c cred d can typed p.
+          (k.credential n c cred d can typed p.0, λ le replied link is. (let h = p.1 le replied link is in record { room = h.room; up = h.up; down = h.down }));
+      time = λ n seconds d p. (k.time n seconds d p.0, λ le replied link is. (let h = p.1 le replied link is in record { room = h.room; up = h.up; down = h.down }));
+      action = λ n c link a d last acts may p. (
+        k.action n c link a d last acts may p.0,
+        λ le replied other is. (let most = counted_most a n in
+            let fits : n ≤ lines_max = omega (arith, le, most) in
+            let t = setting_now s d in
+            let new = after_action t link a d in
+            let x = action_extends t link a d in
+            let before = replied_before link d new x replied in
+            let here = (p.0.1 fits before).frame.owned c link last in
+            let was = link_of_same d new other x.opened is in
+            none_by link other d new here.0.0 is.0 x (none_acts t link a d) (p.1 fits before other was)),
+      );
+      begins = λ n c link d last acts numbered gone stays p. (
+        k.begins n c link d last acts numbered gone stays p.0,
+        λ le replied. (let fits : n ≤ lines_max = omega (arith, le) in
+            let begun = begun_drill s c link d in
+            let before = replied_before (last_link c begun) begun (after_leaving s c link d) (opening_adds (setting_now s begun) (last_link c begun) begun) replied in
+            begun_loses s c link d (begins_so s opening n c link d le last numbered stays (p.0.1 fits before)) (p.1 fits before)),
+      );
+    }
+
+none_openings : (s : Setting) (link : ℕ) (links : List ℕ) (d : Drill) → 1 ≤ link → AllByRecursion (λ (l : ℕ). 1 ≤ l) links → NoneLost link d → NoneLost link (after_openings s links d)
 none_openings s link [] d one some h = h
 none_openings s link (l ∷ links) d one some h =
     none_openings s link links (after_opening s l d) one some.1 (none_by l link d (after_opening s l d) some.0 one (opening_adds s l d) (none_opening s l d) h)
 
+from_one : (from n : ℕ) → 1 ≤ from → AllByRecursion (λ (l : ℕ). 1 ≤ l) (range_with_len from n)
+from_one from zero low = tt
+from_one from (suc n) low = (low, from_one (from + 1) n (omega (arith, low)))
+
 start_none : (s : Setting) (clients link : ℕ) → 1 ≤ link → link ≤ clients → NoneLost link (start s clients)
 unfolding bytes_sent bytes_received
-start_none s clients link low high = record { room = (start_carries s clients link low high).room; up = λ e. omega arith; down = λ e. omega arith }
+start_none s clients link low high = record {
+  room = (let count = length-replicate clients empty_pipes in omega (arith, count, low, high));
+  up = λ e. omega arith;
+  down = λ e. omega arith;
+}
 
-pub follows_lose_nothing : (server : SerialServer) (script : ScriptLines) (run : List Mark) → IsScript script → IsUnnumbered script → (follows : Follows server script run) → (link : ℕ) → IsClient script link → NoneLost link follows.last
+first_loses : (server : SerialServer) (script : ScriptLines) → IsDrillScript script → LosesNothing (opened_drill server script.opening)
 unfolding opened_drill
-follows_lose_nothing server script run is none follows link within =
+first_loses server script is link within =
     let opening = script.opening in
     let s = setting_of server opening in
-    let clients = opening.clients in
-    none_lines s clients link script.lines (opened_drill server opening) follows.last within.0 (all_name opening [] script.lines is.follow_on) (follows_made server script run is none follows)
-    (none_openings s link (links_of clients) (start s clients) within.0 (are_links 1 clients (omega arith)) (start_none s clients link within.0 within.1))
+    let many = opened_count server script is in
+    none_openings s link (links_of opening.clients) (start s opening.clients) within.0 (from_one 1 opening.clients (omega arith))
+    (start_none s opening.clients link within.0 (let most = within.1 in omega (arith, most, many)))
+
+pub follows_lose_nothing : (server : SerialServer) (script : ScriptLines) (run : List Mark) → IsDrillScript script → RepliedInBytes run → (follows : Follows server script run) → LosesNothing follows.last
+follows_lose_nothing server script run is replied follows =
+    let s = setting_of server script.opening in
+    (lines_kept s script.opening AnyRaw AnyRaw (LosesThen s script.opening) (loses_kept s script.opening) 0 (length script.lines) script.opening.clients script.lines (opened_drill server script.opening) follows.last
+    (lines_of script is) (all_act script.lines) (omega arith) follows.makes (first_then server script is, λ le replied. first_loses server script is)).1 is.few_lines (subst RepliedInBytes follows.marks_are replied)

@@ -1,18 +1,18 @@
 -- A script that puts no bytes into pipes has a run.
 use Rattle.std.specs.List.{list_any}
-use Rattle.std.proofs.Common.{◌≡◌, ℕ, false, List, [], ◌∷◌, ◌++◌, refl, sym, subst, ◌∙◌, append_assoc}
+use Rattle.std.specs.Prelude.{◌||◌}
+use Rattle.std.proofs.Common.{◌≡◌, ℕ, Bool, true, false, List, [], ◌∷◌, ◌++◌, refl, sym, subst, ◌∙◌, append_assoc}
 use Rattle.nr_reduce.specs.declared.mark.Mark.{Mark}
 use Rattle.nr_script.specs.declared.script.Line.{Line}
 use Rattle.nr_script.specs.declared.script.Line.TheVariants as lines
-use Rattle.nr_script.specs.Script.{ScriptLines, IsScript}
+use Rattle.nr_script.specs.Script.{ScriptLines}
 use Rattle.nr_drill.specs.Drill.{SerialServer, Setting, Drill, setting_now}
 use Rattle.nr_drill.specs.Follows.{after_line, Drains, Makes, MakeAll, Follows, setting_of, opened_drill}
-use Rattle.nr_drill.specs.Lines.{is_raw_of, HasNoRaw, IsClient, IsUnnumbered}
+use Rattle.nr_drill.specs.Lines.{is_raw_of, HasNoRaw, IsClient, IsUnnumbered, IsDrillScript}
 use Rattle.nr_drill.specs.DrillSetup.{drill_setup, server_of}
-use Rattle.nr_drill.specs.Laws.{ScriptsHaveRuns, DrillsHaveRuns}
+use Rattle.nr_drill.specs.Laws.{PlainDrainsEnd, ScriptsHaveRuns, DrillsHaveRuns}
 use Rattle.nr_drill.specs.Drains.{AnswersInBytes, AnswersCalls}
-use Rattle.nr_drill.proofs.LessScripts.{any_front}
-use Rattle.nr_drill.proofs.LessRounds.{drains_end}
+use Rattle.nr_drill.proofs.EndingDrains.{drains_end}
 use Rattle.nr_drill.proofs.LessPlain.{plain_answers, plain_answers_in_bytes, plain_runs_reply_in_bytes}
 use Rattle.nr_drill.proofs.Headed.{drill_is_run}
 use Rattle.nr_byte_laws.proofs.TreeBytes.{drill_in_bytes}
@@ -27,11 +27,19 @@ last_made : (s : Setting) (clients : ℕ) (before : List Line) (line : Line) (ol
 last_made s clients [] line old mid new made is = (new, subst (λ (d : Drill). Makes s clients line d new) made is, refl)
 last_made s clients (first ∷ before) line old mid new made is = (made.0, made.1, last_made s clients before line made.0 mid new made.2 is)
 
+any_front : {X : Type 0} (p : X → Bool) (xs ys : List X) → list_any p (xs ++ ys) ≡ false → list_any p xs ≡ false
+any_front p [] ys e = refl
+any_front {X = X} p (x ∷ xs) ys e = by (p x) e (any_front p xs ys)
+  where
+    by : (b : Bool) → (b || list_any p (xs ++ ys)) ≡ false → (list_any p (xs ++ ys) ≡ false → list_any p xs ≡ false) → (b || list_any p xs) ≡ false
+    by true e rest = absurd cc
+    by false e rest = rest e
+
 none_before : (script : ScriptLines) (before after : List Line) → script.lines ≡ before ++ after → ((client : ℕ) → IsClient script client → HasNoRaw script.lines client) →
     (client : ℕ) → IsClient script client → HasNoRaw before client
 none_before script before after cut raw client within = any_front (is_raw_of client) before after (subst (λ (all : List Line). list_any (is_raw_of client) all ≡ false) cut (raw client within))
 
-rest_made : (server : SerialServer) (script : ScriptLines) → IsScript script → IsUnnumbered script → ((client : ℕ) → IsClient script client → HasNoRaw script.lines client) →
+rest_made : (server : SerialServer) (script : ScriptLines) → IsDrillScript script → IsUnnumbered script → ((client : ℕ) → IsClient script client → HasNoRaw script.lines client) →
     AnswersInBytes (setting_of server script.opening) → AnswersCalls (setting_of server script.opening) →
     (after before : List Line) → script.lines ≡ before ++ after → (mid : Drill) →
     MakeAll (setting_of server script.opening) script.opening.clients before (opened_drill server script.opening) mid →
@@ -46,11 +54,15 @@ rest_made server script is none raw replies answers (line ∷ after) before cut 
     (rest.0, (next.0, next.1, rest.1))
 
 -- if the server has a reply to each call that waits, and replies in bytes
-some_run : (server : SerialServer) (script : ScriptLines) → IsScript script → IsUnnumbered script → ((client : ℕ) → IsClient script client → HasNoRaw script.lines client) →
+some_run : (server : SerialServer) (script : ScriptLines) → IsDrillScript script → IsUnnumbered script → ((client : ℕ) → IsClient script client → HasNoRaw script.lines client) →
     AnswersInBytes (setting_of server script.opening) → AnswersCalls (setting_of server script.opening) → (run : List Mark) × Follows server script run
 some_run server script is none raw replies answers =
     let all = rest_made server script is none raw replies answers script.lines [] refl (opened_drill server script.opening) refl in
     (all.0.marks, record { last = all.0; makes = all.1; marks_are = refl })
+
+pub plain_drains_end : PlainDrainsEnd
+plain_drains_end tree script in_bytes is none before after cut raw mid made =
+    drains_end (server_of (drill_setup tree script.opening)) script is none (plain_answers_in_bytes tree script.opening in_bytes) (plain_answers tree script.opening) before after cut raw mid made
 
 -- so it has with the plain server of a drill over a tree in bytes
 pub scripts_have_runs : ScriptsHaveRuns
@@ -60,4 +72,4 @@ pub drills_have_runs : DrillsHaveRuns
 drills_have_runs tree script first is none raw =
     let in_bytes = drill_in_bytes tree first in
     let run = scripts_have_runs tree script in_bytes is none raw in
-    (run.0, drill_is_run tree script run.0 (drill_sane tree first) is none (plain_runs_reply_in_bytes tree script run.0 in_bytes is none run.1) run.1)
+    (run.0, drill_is_run tree script run.0 (drill_sane tree first) is (plain_runs_reply_in_bytes tree script run.0 in_bytes is run.1) run.1)

@@ -1,22 +1,19 @@
 -- What a report says is what its marks say.
-use Rattle.std.proofs.Common.{◌≡◌, ℕ, zero, suc, ◌+◌, ◌-◌, ◌<◌, ◌≤◌, arith, Bool, true, false, cond, List, [], ◌∷◌, ◌++◌, length, map, take, drop, get_or, set, Some, refl, sym, ap, subst, ◌∙◌, append_assoc, le-ltb}
-use Rattle.std.specs.Prelude.{◌||◌, is_some, slice_get, nat_lt, if◌then◌else◌, slice_index_or}
-use Rattle.std.specs.List.{flat_map, range_with_len}
+use Rattle.std.proofs.Common.{◌≡◌, ℕ, zero, suc, ◌+◌, ◌-◌, ◌<◌, ◌≤◌, arith, Bool, true, false, cond, List, [], ◌∷◌, ◌++◌, length, map, take, drop, get_or, set, Some, refl, sym, ap, subst, ◌∙◌}
+use Rattle.std.specs.Prelude.{◌||◌, is_some, slice_get, if◌then◌else◌, slice_index_or}
+use Rattle.std.specs.List.{flat_map}
 use Rattle.std.proofs.lemmas.Grind.{flat_map-append}
-use Rattle.std.proofs.lemmas.List.{append-nil, take_more}
+use Rattle.std.proofs.lemmas.List.{append-nil, length-map, take_more}
 use Rattle.std.proofs.lemmas.Option.{slice_get-map}
 use Rattle.std.specs.Option.{option_map}
 use Rattle.nr_wire.specs.declared.hello.Side.{Side}
 use Rattle.nr_wire.specs.declared.hello.Side.TheVariants.{Initiator, Responder}
-use Rattle.nr_reduce.specs.declared.call.Outcome.{Outcome}
-use Rattle.nr_reduce.specs.declared.call.Submission.TheVariants as submissions
 use Rattle.nr_reduce.specs.declared.mark.Entry.{Entry}
 use Rattle.nr_reduce.specs.declared.mark.Mark.{Mark}
 use Rattle.nr_reduce.specs.declared.mark.Mark.TheVariants as marks
-use Rattle.nr_reduce.specs.PlainJournal.{entries_added, journal}
+use Rattle.nr_reduce.specs.PlainJournal.{journal}
 use Rattle.nr_reduce.specs.History.{bytes_sent, bytes_received, written_at, fed_at, is_dropped}
 use Rattle.nr_reduce.specs.Run.{end_of_side}
-use Rattle.nr_drill.specs.declared.report.CallState.TheVariants as states
 use Rattle.nr_drill.specs.declared.report.CallReport.{CallReport}
 use Rattle.nr_drill.specs.declared.report.LinkEnds.{LinkEnds}
 use Rattle.nr_drill.specs.declared.report.LinkLog.{LinkLog}
@@ -24,28 +21,16 @@ use Rattle.nr_drill.specs.declared.report.LinkReport.{LinkReport}
 use Rattle.nr_drill.specs.declared.report.LinkState.TheVariants as links
 use Rattle.nr_drill.specs.declared.report.Report.{Report}
 use Rattle.nr_drill.specs.declared.draft.Draft.{Draft}
-use Rattle.nr_plain.specs.Added.{entries_of_call}
-use Rattle.nr_drill.specs.Drill.{Setting, plain_of, links_of, SerialServer, client_of, is_sent_again, journal_of}
+use Rattle.nr_drill.specs.Drill.{Setting, client_of, journal_of}
 use Rattle.std.proofs.Math.Seq.{take-append_seam}
-use Rattle.std.proofs.lemmas.List.FromFn.{length-map-range_with_len}
-use Rattle.nr_drill.specs.Follows.{setting_of, last_setting}
+use Rattle.nr_drill.specs.Follows.{last_setting}
 use Rattle.nr_drill.specs.Headline.{log_of}
-use Rattle.nr_drill.proofs.Numbering.{drill_numbered}
 use Rattle.nr_drill.specs.LinkEnds.{AreEnds, ReportsRuns, ends_of}
-use Rattle.nr_drill.specs.Reports.{at_last, becomes, call_reports, done_state, is_gone, last_place, link_report, link_reports, lost_if, place_shown, reports_after, reports_from, reports_with, with_call_line, side_report}
-use Rattle.nr_drill.specs.private.Drafts.{AddsToLog, AreCalls, AreNumbered, IsDraft, adding, at_last_by, gone_by, link_reports_from, NumberedMark, IsNextXid, done_on, calls_with, calls_from, calls_after, link_report_by}
-use Rattle.nr_reduce.specs.declared.call.Call.{Call}
-use Rattle.nr_reduce.specs.declared.call.Form.{Form}
-use Rattle.nr_reduce.specs.declared.call.Submission.{Submission}
-use Rattle.nr_reduce.specs.AtEachMark.{AtEachMark}
-use Rattle.nr_reduce.specs.Journal.{PlacedMark, PlainMark}
+use Rattle.nr_drill.specs.Reports.{at_last, call_reports, is_gone, link_report, link_reports, lost_if, reports_after, side_report}
+use Rattle.nr_drill.specs.private.Drafts.{AddsToLog, AreCalls, AreNumbered, IsDraft, TellsCalls, at_last_by, entries_so_far, gone_by, link_reports_from, link_report_by}
 use Rattle.nr_reduce.specs.NumberedJournal.{entries_alone}
-use Rattle.nr_reduce.proofs.Steps.{AtEachMark_first}
-use Rattle.nr_drill.proofs.Followed.{follows_first}
-use Rattle.nr_drill.proofs.Journals.{follows_is_plain, journal_alone, length_alone}
-use Rattle.nr_drill.proofs.FirstLinks.{opened_firsts, own_client}
-use Rattle.nr_drill.proofs.FirstLines.{index_in}
-use Rattle.nr_drill.specs.Unnumbered.{AreFirst, UnnumberedMark, IsPlainRun}
+use Rattle.nr_drill.proofs.EndingDrains.{Owned}
+use Rattle.nr_drill.proofs.Numbering.{drill_numbered, drill_links, drill_owned}
 
 -- ===== logs
 
@@ -87,93 +72,15 @@ settled_more {X} f first calls i r new lt is at e =
     let next : i + 1 ≡ suc i = omega arith in
     rw (next) ((λ k. set (is k) i (e k)) ∙ settled_one f first i r lt (subst (λ (xs : List X). r ≡ get_or xs i r) is at))
 
-pub are_calls : (links : ℕ) (all : List Mark) (ends : List LinkEnds) (d : Draft) (calls : List CallReport) (entries : List Entry) → links ≡ length ends → IsDraft links all all d
-    → calls ≡ map (at_last_by ends) d.calls.items → entries ≡ d.journal.items → AreCalls all ends calls entries
-are_calls links all ends d calls entries same h e j = record {
+pub are_calls : (s : Setting) (clients : List ℕ) (count : ℕ) (all : List Mark) (ends : List LinkEnds) (d : Draft) (calls : List CallReport) (entries : List Entry) → IsDraft s clients count all all d
+    → calls ≡ map (at_last_by ends) d.calls.items → entries ≡ d.journal.items → AreCalls s count all ends calls entries
+are_calls s clients count all ends d calls entries h e j = record {
   calls_are = e ∙ ap (map (at_last_by ends)) h.calls;
   journal_is = j ∙ h.journal;
-  within = λ k r at. subst (λ (n : ℕ). (1 ≤ r.client) × (r.client ≤ n)) same (h.within k r (subst (λ (cs : List CallReport). slice_get cs k ≡ Some r) (sym h.calls) at));
+  within = λ k r at. h.within k r (subst (λ (cs : List CallReport). slice_get cs k ≡ Some r) (sym h.calls) at);
 }
 
--- ===== a server that adds the same entries
-
--- the drill of clients without numbers: each link is opened with the first xid 1
-record IsSetting (s : Setting) : Type 0 where
-  adds : s.server.adds ≡ entries_of_call
-  firsts : AreFirst s
-  ones : (link : ℕ) → (s.opened link).first_xid ≡ 1
-
-plain_first : (server : SerialServer) (before run : List Mark) → IsPlainRun server (before ++ run) → IsPlainRun server before
-plain_first server before run h = record {
-  placed = AtEachMark_first (PlacedMark (plain_of server)) [] before run h.placed;
-  plain_replies = AtEachMark_first (PlainMark (plain_of server)) [] before run h.plain_replies;
-  unnumbered = AtEachMark_first UnnumberedMark [] before run h.unnumbered;
-}
-
-module _ (s : Setting) (is : IsSetting s) where
-  own : (link : ℕ) → client_of s link ≡ link
-  own link = own_client s link (is.firsts.unnumbered link)
-
-  same_entries : (mark : Mark) → entries_added adding mark ≡ entries_added (plain_of s.server) mark
-  same_entries (marks.Execute l xid moment payload place reply) = λ i. sym is.adds i moment payload reply
-  same_entries (marks.Submit l call form answer) = refl
-  same_entries (marks.Wrote l side bytes) = refl
-  same_entries (marks.Fed l side bytes) = refl
-  same_entries (marks.Done l xid outcome) = refl
-  same_entries (marks.Lost l xid) = refl
-  same_entries (marks.Forget l xid) = refl
-  same_entries (marks.Revoke l xid bytes) = refl
-  same_entries (marks.Drop l) = refl
-  same_entries (marks.Told l what) = refl
-
-  same_all : (run : List Mark) → flat_map (entries_added adding) run ≡ flat_map (entries_added (plain_of s.server)) run
-  same_all [] = refl
-  same_all (mark ∷ run) = λ i. same_entries mark i ++ same_all run i
-
-  same_journal : (run : List Mark) → IsPlainRun s.server run → journal adding run ≡ entries_alone (journal_of s run)
-  unfolding journal
-  same_journal run h = same_all run ∙ sym (journal_alone s run h)
-
-  same_done : (l xid : ℕ) (outcome : Outcome) (before : List Mark) → IsPlainRun s.server before → done_on adding l xid outcome before ≡ done_state s l xid outcome before
-  unfolding done_on done_state
-  same_done l xid outcome before h =
-      ap (λ (entries : ℕ). states.Done (place_shown entries (last_place l xid before) outcome) outcome) (ap (λ (es : List Entry). length es) (same_journal before h) ∙ length_alone (journal_of s before))
-
-  -- a call that is accepted is a new one
-  not_again : (link : ℕ) (before : List Mark) (call : Call) (form : Form) (answer : Submission) → IsNextXid before (marks.Submit link call form answer) → is_sent_again s link answer ≡ false
-  not_again link before call form (submissions.Accepted xid) next =
-      ap (λ (n : ℕ). nat_lt xid n) (is.ones link) ∙ le-ltb xid 1 (omega (arith, next))
-  not_again link before call form (submissions.Refused why) next = refl
-  not_again link before call form submissions.Dropped next = refl
-
-  same_with : (before : List Mark) (mark : Mark) (reports : List CallReport) → IsPlainRun s.server before → IsNextXid before mark → calls_with adding before mark reports ≡ reports_with s before mark reports
-  same_with before (marks.Done l xid outcome) reports h next = λ i. map (becomes (sym (own l) i) xid (same_done l xid outcome before h i)) reports
-  same_with before (marks.Submit l call form answer) reports h next = λ i. with_call_line (sym (not_again l before call form answer next) i) (sym (own l) i) answer reports
-  same_with before (marks.Wrote l side bytes) reports h next = refl
-  same_with before (marks.Fed l side bytes) reports h next = refl
-  same_with before (marks.Execute l xid moment payload place reply) reports h next = refl
-  same_with before (marks.Lost l xid) reports h next = λ i. map (becomes (sym (own l) i) xid states.Lost) reports
-  same_with before (marks.Forget l xid) reports h next = λ i. map (becomes (sym (own l) i) xid states.Forgotten) reports
-  same_with before (marks.Revoke l xid bytes) reports h next = λ i. map (becomes (sym (own l) i) xid (states.Revoked bytes)) reports
-  same_with before (marks.Drop l) reports h next = refl
-  same_with before (marks.Told l what) reports h next = refl
-
-  same_from : (clients : ℕ) (reports : List CallReport) (before run : List Mark) → IsPlainRun s.server (before ++ run) → AtEachMark (NumberedMark clients) before run → calls_from adding reports before run ≡ reports_from s reports before run
-  same_from clients reports before [] h numbered = refl
-  same_from clients reports before (mark ∷ run) h numbered =
-      same_from clients (calls_with adding before mark reports) (before ++ mark ∷ []) run (subst (IsPlainRun s.server) (sym (append_assoc before (mark ∷ []) run)) h) numbered.1
-      ∙ ap (λ (rs : List CallReport). reports_from s rs (before ++ mark ∷ []) run) (same_with before mark reports (plain_first s.server before (mark ∷ run) h) numbered.0.xid)
-
-  same_reports : (clients : ℕ) (run : List Mark) → IsPlainRun s.server run → AreNumbered clients run → calls_after adding run ≡ reports_after s run
-  unfolding calls_after reports_after
-  same_reports clients run h numbered = same_from clients [] [] run h numbered
-
--- ===== what links came to
-
-range_at : (a n i : ℕ) → i < n → slice_get (range_with_len a n) i ≡ Some (a + i)
-range_at a zero i lt = absurd (omega (arith, lt))
-range_at a (suc n) zero lt = (let e : a ≡ a + 0 = omega arith in ap (λ (k : ℕ). Some k) e)
-range_at a (suc n) (suc i) lt = (let e : (a + 1) + i ≡ a + suc i = omega arith in range_at (a + 1) n i (omega (arith, lt)) ∙ ap (λ (k : ℕ). Some k) e)
+-- ===== what last links came to
 
 or_is : (a b : Bool) → cond a true b ≡ (a || b)
 or_is true b = refl
@@ -183,88 +90,82 @@ map_same : {X Y : Type 0} (f g : X → Y) (xs : List X) → ((j : ℕ) (x : X) �
 map_same f g [] same = refl
 map_same f g (x ∷ xs) same = (let h = same 0 x refl in let rest = map_same f g xs (λ j y at. same (suc j) y at) in λ i. h i ∷ rest i)
 
--- what a report says of marks, over a setting with this many clients
-record TellsMarks (s : Setting) (clients : ℕ) (run : List Mark) (report : Report) : Type 0 where
+get_index : (xs : List ℕ) (i other : ℕ) → i < length xs → slice_get xs i ≡ Some (slice_index_or xs i other)
+get_index [] i other lt = absurd (omega (arith, lt))
+get_index (x ∷ xs) zero other lt = refl
+get_index (x ∷ xs) (suc i) other lt = get_index xs i other (omega (arith, lt))
+
+-- what a report says of marks, over a setting with these last links
+record TellsMarks (s : Setting) (links : List ℕ) (run : List Mark) (report : Report) : Type 0 where
   pub journal : report.journal ≡ entries_alone (journal_of s run)
-  pub calls : report.calls ≡ call_reports s (links_of clients) run
-  pub links : report.links ≡ link_reports s (links_of clients) run
+  pub calls : report.calls ≡ call_reports s links run
+  pub links_are : report.links ≡ link_reports s links run
 
-module _ (s : Setting) (is : IsSetting s) (run : List Mark) where
-  one_link : (link : ℕ) → link_report_by link (ends_of s run link) ≡ link_report s run link
-  one_link link = ap (λ (client : ℕ). if is_dropped link run then record { client = client; state = links.Dropped } ∷ []
-      else side_report client Initiator (end_of_side (s.opened link) link Initiator run) ++ side_report client Responder (end_of_side (s.opened link) link Responder run)) (sym (own s is link))
+module _ (s : Setting) (run : List Mark) where
+  one_link : (client link : ℕ) → client_of s link ≡ client → link_report_by client (ends_of s run link) ≡ link_report s run link
+  one_link client link own = ap (λ (c : ℕ). if is_dropped link run then record { client = c; state = links.Dropped } ∷ []
+      else side_report c Initiator (end_of_side (s.opened link) link Initiator run) ++ side_report c Responder (end_of_side (s.opened link) link Responder run)) (sym own)
 
-  links_from : (a n : ℕ) → link_reports_from a (map (ends_of s run) (range_with_len a n)) ≡ flat_map (link_report s run) (range_with_len a n)
-  links_from a zero = refl
-  links_from a (suc n) = λ i. one_link a i ++ links_from (a + 1) n i
+  links_from : (k : ℕ) (all : List ℕ) → Owned (λ (c : ℕ) (link : ℕ). client_of s link ≡ c) k all → link_reports_from k (map (ends_of s run) all) ≡ flat_map (link_report s run) all
+  links_from k [] own = refl
+  links_from k (link ∷ all) own =
+      let next : k + 1 ≡ suc k = omega arith in
+      let rest = ap (λ (m : ℕ). link_reports_from m (map (ends_of s run) all)) next ∙ links_from (suc k) all own.1 in
+      λ i. one_link k link own.0 i ++ rest i
 
-  module _ (ends : List LinkEnds) (are : AreEnds s (links_of (length ends)) run ends) where
-    end_at : (link : ℕ) → 1 ≤ link → link ≤ length ends → slice_get ends (link - 1) ≡ Some (ends_of s run link)
-    end_at link low high =
-        let same : 1 + (link - 1) ≡ link = omega (arith, low) in
-        ap (λ (es : List LinkEnds). slice_get es (link - 1)) are ∙ slice_get-map (ends_of s run) (links_of (length ends)) (link - 1)
-        ∙ ap (option_map (ends_of s run)) (range_at 1 (length ends) (link - 1) (omega (arith, low, high)) ∙ ap (λ (k : ℕ). Some k) same)
+  module _ (all : List ℕ) (ends : List LinkEnds) (are : AreEnds s all run ends) where
+    count : length ends ≡ length all
+    count = ap (λ (es : List LinkEnds). length es) are ∙ length-map all (ends_of s run)
 
-    gone_is : (link : ℕ) → 1 ≤ link → link ≤ length ends → gone_by (slice_get ends (link - 1)) ≡ is_gone s run link
-    gone_is link low high = ap gone_by (end_at link low high) ∙ or_is (is_dropped link run) (is_some (end_of_side (s.opened link) link Initiator run))
+    end_at : (i other : ℕ) → i < length all → slice_get ends i ≡ Some (ends_of s run (slice_index_or all i other))
+    end_at i other lt =
+        ap (λ (es : List LinkEnds). slice_get es i) are ∙ slice_get-map (ends_of s run) all i ∙ ap (option_map (ends_of s run)) (get_index all i other lt)
 
-    at_last_is : (r : CallReport) → 1 ≤ r.client → r.client ≤ length ends → at_last_by ends r ≡ at_last s (links_of (length ends)) run r
+    at_last_is : (r : CallReport) → 1 ≤ r.client → r.client ≤ length ends → at_last_by ends r ≡ at_last s all run r
     at_last_is r low high =
-        let own_link : r.client ≡ slice_index_or (links_of (length ends)) (r.client - 1) r.client = sym (index_in 1 (length ends) (r.client - 1) r.client (omega (arith, low))) in
-        ap (λ (b : Bool). record r { state = lost_if b r.state }) (gone_is r.client low high ∙ ap (is_gone s run) own_link)
+        let link : ℕ = slice_index_or all (r.client - 1) r.client in
+        let many = count in
+        let gone : gone_by (slice_get ends (r.client - 1)) ≡ is_gone s run link =
+        ap gone_by (end_at (r.client - 1) r.client (omega (arith, low, high, many))) ∙ or_is (is_dropped link run) (is_some (end_of_side (s.opened link) link Initiator run)) in
+        ap (λ (b : Bool). record r { state = lost_if b r.state }) gone
 
-    tells : (report : Report) → IsPlainRun s.server run → AreNumbered (length ends) run → AreCalls run ends report.calls report.journal → report.links ≡ link_reports_from 1 ends
-        → TellsMarks s (length ends) run report
+    tells : (report : Report) → Owned (λ (c : ℕ) (link : ℕ). client_of s link ≡ c) 1 all → AreCalls s (length ends) run ends report.calls report.journal → report.links ≡ link_reports_from 1 ends → TellsMarks s all run report
     unfolding call_reports link_reports
-    tells report plain numbered calls links = record {
-      journal = calls.journal_is ∙ same_journal s is run plain;
-      calls = calls.calls_are
-          ∙ map_same (at_last_by ends) (at_last s (links_of (length ends)) run) (calls_after adding run) (λ j r at. (let w = calls.within j r at in at_last_is r w.0 w.1))
-          ∙ ap (map (at_last s (links_of (length ends)) run)) (same_reports s is (length ends) run plain numbered);
-      links = links ∙ ap (link_reports_from 1) are ∙ links_from 1 (length ends);
+    tells report own calls links_are = record {
+      journal = calls.journal_is;
+      calls = calls.calls_are ∙ map_same (at_last_by ends) (at_last s all run) (reports_after s run) (λ j r at. (let w = calls.within j r at in at_last_is r w.0 w.1));
+      links_are = links_are ∙ ap (link_reports_from 1) are ∙ links_from 1 all own;
     }
 
 -- ===== the report of a drill's run
 
-report_own : (ends : List LinkEnds) (report : Report) → (AreNumbered (length ends) report.marks → AreCalls report.marks ends report.calls report.journal) → report.links ≡ link_reports_from 1 ends → ReportsRuns report.marks ends report
-report_own ends report calls links server script is none drill adds are =
+report_own : (clients : List ℕ) (ends : List LinkEnds) (report : Report) → TellsCalls clients report.marks ends report.calls report.journal → report.links ≡ link_reports_from 1 ends → ReportsRuns report.marks clients ends report
+report_own clients ends report calls links server script is drill adds clients_are ends_are =
     let run : List Mark = report.marks in
-    let s : Setting = setting_of server script.opening in
-    let clients : ℕ = script.opening.clients in
-    let first = follows_first server script run is none drill.follows in
-    let here : AreEnds s (links_of clients) run ends = subst (λ (t : Setting). AreEnds t (links_of clients) run ends) first.setting
-    (subst (λ (ls : List ℕ). AreEnds (last_setting drill.follows) ls run ends) first.last_links are) in
-    let count : length ends ≡ clients = ap (λ (es : List LinkEnds). length es) here ∙ length-map-range_with_len (ends_of s run) 1 clients in
-    let own_ends : AreEnds s (links_of (length ends)) run ends = subst (λ (n : ℕ). AreEnds s (links_of n) run ends) (sym count) here in
-    let numbered : AreNumbered (length ends) run = subst (λ (n : ℕ). AreNumbered n run) (sym count) (drill_numbered server script run is none drill.follows) in
-    let setting : IsSetting s = record { adds = adds; firsts = opened_firsts server script.opening none; ones = λ link. refl } in
-    let told : TellsMarks s (length ends) run report = tells s setting run ends own_ends report (follows_is_plain server script run is none drill.follows) numbered (calls numbered) links in
-    record {
-      drill = drill;
-      journal = told.journal ∙ (λ i. entries_alone (journal_of (sym first.setting i) run));
-      calls = told.calls ∙ (λ i. call_reports s (links_of (count i)) run) ∙ (λ i. call_reports (sym first.setting i) (sym first.last_links i) run);
-      links = told.links ∙ (λ i. link_reports s (links_of (count i)) run) ∙ (λ i. link_reports (sym first.setting i) (sym first.last_links i) run);
-    }
+    let s : Setting = last_setting drill.follows in
+    let all : List ℕ = drill.follows.last.last_links in
+    let many : length ends ≡ script.opening.clients = count s run all ends ends_are ∙ drill_links server script run is drill in
+    let numbered : AreNumbered s clients (length ends) run = subst (λ (n : ℕ). AreNumbered s clients n run) (sym many) (drill_numbered server script run is drill adds clients clients_are) in
+    let told : TellsMarks s all run report = tells s run all ends ends_are report (drill_owned server script run is drill) (calls s numbered) links in
+    record { drill = drill; journal = told.journal; calls = told.calls; links = told.links_are }
 
-pub report_tells : (run : List Mark) (ends : List LinkEnds) (report : Report) → report.marks ≡ run → (AreNumbered (length ends) run → AreCalls run ends report.calls report.journal)
-    → report.links ≡ link_reports_from 1 ends → ReportsRuns run ends report
-report_tells run ends report marks_are calls links =
-    subst (λ (r : List Mark). ReportsRuns r ends report) marks_are
-    (report_own ends report (subst (λ (r : List Mark). AreNumbered (length ends) r → AreCalls r ends report.calls report.journal) (sym marks_are) calls) links)
+pub report_tells : (run : List Mark) (clients : List ℕ) (ends : List LinkEnds) (report : Report) → report.marks ≡ run → TellsCalls clients run ends report.calls report.journal → report.links ≡ link_reports_from 1 ends → ReportsRuns run clients ends report
+report_tells run clients ends report marks_are calls links =
+    subst (λ (r : List Mark). ReportsRuns r clients ends report) marks_are
+    (report_own clients ends report (subst (λ (r : List Mark). TellsCalls clients r ends report.calls report.journal) (sym marks_are) calls) links)
 
-pub parts_tell : (run marks : List Mark) (ends : List LinkEnds) (report : Report) (calls : List CallReport) (entries : List Entry) (links : List LinkReport) → run ≡ marks → report.marks ≡ marks
-    → report.calls ≡ calls → report.journal ≡ entries → report.links ≡ links → (AreNumbered (length ends) run → AreCalls run ends calls entries)
-    → links ≡ link_reports_from 1 ends → ReportsRuns marks ends report
-parts_tell run marks ends report calls entries links same marks_are c j l calls_are links_are =
-    report_tells marks ends report marks_are all (l ∙ links_are)
+pub parts_tell : (run marks : List Mark) (clients : List ℕ) (ends : List LinkEnds) (report : Report) (calls : List CallReport) (entries : List Entry) (links : List LinkReport) → run ≡ marks → report.marks ≡ marks
+    → report.calls ≡ calls → report.journal ≡ entries → report.links ≡ links → TellsCalls clients run ends calls entries → links ≡ link_reports_from 1 ends → ReportsRuns marks clients ends report
+parts_tell run marks clients ends report calls entries links same marks_are c j l calls_are links_are =
+    report_tells marks clients ends report marks_are all (l ∙ links_are)
   where
-    all : AreNumbered (length ends) marks → AreCalls marks ends report.calls report.journal
-    all numbered =
-        let h : AreCalls run ends calls entries = calls_are (subst (AreNumbered (length ends)) (sym same) numbered) in
+    all : TellsCalls clients marks ends report.calls report.journal
+    all s numbered =
+        let h : AreCalls s (length ends) run ends calls entries = calls_are s (subst (AreNumbered s clients (length ends)) (sym same) numbered) in
         record {
-          calls_are = c ∙ h.calls_are ∙ ap (λ (r : List Mark). map (at_last_by ends) (calls_after adding r)) same;
-          journal_is = j ∙ h.journal_is ∙ ap (journal adding) same;
-          within = λ k q at. h.within k q (subst (λ (r : List Mark). slice_get (calls_after adding r) k ≡ Some q) (sym same) at);
+          calls_are = c ∙ h.calls_are ∙ ap (λ (r : List Mark). map (at_last_by ends) (reports_after s r)) same;
+          journal_is = j ∙ h.journal_is ∙ ap (entries_so_far s) same;
+          within = λ k q at. h.within k q (subst (λ (r : List Mark). slice_get (reports_after s r) k ≡ Some q) (sym same) at);
         }
 
 -- a vector whose slice was replaced

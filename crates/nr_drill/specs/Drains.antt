@@ -4,6 +4,7 @@ use Rattle.nr_xdr.specs.Item.{IsBytes}
 use Rattle.nr_wire.specs.declared.hello.Side.TheVariants.{Initiator, Responder}
 use Rattle.nr_link.specs.Frames.{frames_of}
 use Rattle.nr_reduce.specs.History.{bytes_sent, bytes_received, is_dropped}
+use Rattle.nr_reduce.specs.declared.mark.LinkParameters.{LinkParameters}
 use Rattle.nr_reduce.specs.NumberedJournal.{entries_alone, number_heard}
 use Rattle.nr_reduce.specs.ServerState.{ReadyCall}
 use Rattle.nr_reduce.specs.Asked.{Asked}
@@ -12,14 +13,14 @@ use Rattle.nr_reduce.specs.Matched.{Matched}
 use Rattle.nr_laws.specs.Grant.{AcceptsByRule}
 use Rattle.nr_laws.specs.Typed.{IsTyped}
 use Rattle.nr_script.specs.declared.script.Line.{Line}
-use Rattle.nr_script.specs.Script.{ScriptLines, IsScript}
+use Rattle.nr_script.specs.Script.{ScriptLines}
 use Rattle.nr_drill.specs.Drill.{SerialServer, Setting, Drill, GivenReply, now, waiting_call, reply_given, journal_of, pipes_of, empty_pipes, setting_now}
 use Rattle.nr_drill.specs.Follows.{Drains, MakeAll, setting_of, opened_drill}
-use Rattle.nr_drill.specs.Lines.{IsClient, HasNoRaw, IsUnnumbered}
+use Rattle.nr_drill.specs.Lines.{IsClient, HasNoRaw, IsUnnumbered, IsDrillScript}
 use Rattle.nr_drill.specs.InBytes.{ExecutedInBytes}
 use Rattle.nr_drill.specs.WorkLeft.{DrainStep, after_step, work_left, IsLess}
 use Rattle.nr_drill.specs.DrainSteps.{Moves}
-use Rattle.nr_reduce.specs.Opening.{IsFirstLink}
+use Rattle.nr_reduce.specs.Opening.{IsOpened, IsFirstLink}
 
 -- The state of a link of a drill before and after each step: both sides keep their laws and have written what was due; what each received and
 -- what waits is what the other sent, until the link is dropped, and then nothing waits; each side has the hello of the other, and so the server the
@@ -37,24 +38,24 @@ pub record IsRunning (s : Setting) (link : ℕ) (d : Drill) : Type 0 where
   pub server_heard : frames_of Initiator (bytes_received link Responder d.marks) ≢ []
   pub number : number_heard d.marks link ≡ (s.opened link).client.number
 
--- On a link that runs, and that was not reopened, a step that moves something leaves less work. On a link with bytes that a script put there it
+-- On a link that runs, and was opened in range, a step that moves something leaves less work. On a link with bytes that a script put there it
 -- needn't: what is read as a Read Response by its client may be read as a Send by its server.
 abbrev pub StepsLeaveLess : Type 0
-StepsLeaveLess = (s : Setting) (link : ℕ) (step : DrainStep) (old : Drill) → IsFirstLink (s.opened link) → IsRunning s link old → Moves s link step old → IsTyped (after_step s link step old).marks →
+StepsLeaveLess = (s : Setting) (link : ℕ) (step : DrainStep) (old : Drill) → IsOpened (s.opened link) → IsRunning s link old → Moves s link step old → IsTyped (after_step s link step old).marks →
     IsLess (work_left s (after_step s link step old) link) (work_left s old link)
 
--- the server has a reply to each call that waits, if that is executed as a new one
+-- the server has a reply to each call that waits, if that is executed as a new one, whatever the links were opened with
 abbrev pub AnswersCalls : Setting → Type 0
-AnswersCalls s = (link : ℕ) (d : Drill) (call : ReadyCall) → next_call (s.opened link) link d.marks ≡ Some call →
+AnswersCalls s = (opened : ℕ → LinkParameters) (link : ℕ) (d : Drill) (call : ReadyCall) → next_call (opened link) link d.marks ≡ Some call →
     (reply : List ℕ) × (s.server.reply_to (entries_alone (journal_of s d.marks)) (now d) call.payload ≡ Some reply)
 
 -- what a call that waits on a link of a drill is answered with is bytes
 abbrev pub AnswersInBytesAt : Setting → ℕ → Drill → Type 0
 AnswersInBytesAt s link d = (call : ReadyCall) (g : GivenReply) → waiting_call s link d.marks ≡ Some call → reply_given s link d call ≡ Some g → IsBytes g.reply
 
--- It is so on each link of each drill whose marks are of their types, and whose executed payloads are bytes.
+-- It is so on each link of each drill whose marks are of their types, and whose executed payloads are bytes, whatever the links were opened with.
 abbrev pub AnswersInBytes : Setting → Type 0
-AnswersInBytes s = (link : ℕ) (d : Drill) → IsTyped d.marks → ExecutedInBytes d.marks → AnswersInBytesAt s link d
+AnswersInBytes s = (opened : ℕ → LinkParameters) (link : ℕ) (d : Drill) → IsTyped d.marks → ExecutedInBytes d.marks → AnswersInBytesAt (record s { opened = opened }) link d
 
 -- What a step of a drain writes down on a link that runs is of its types, if a reply to a call that waits there is bytes.
 abbrev pub StepsKeepTypes : Type 0
@@ -62,7 +63,7 @@ StepsKeepTypes = (s : Setting) (link : ℕ) (step : DrainStep) (d : Drill) → I
 
 -- After any of the first lines of a script, if none of these puts bytes into pipes, a drain ends: after a number of rounds nothing moves on any link.
 abbrev pub DrainsEnd : Type 0
-DrainsEnd = (server : SerialServer) (script : ScriptLines) → IsScript script → IsUnnumbered script →
+DrainsEnd = (server : SerialServer) (script : ScriptLines) → IsDrillScript script → IsUnnumbered script →
     AnswersInBytes (setting_of server script.opening) → AnswersCalls (setting_of server script.opening) →
     (before after : List Line) → script.lines ≡ before ++ after → ((client : ℕ) → IsClient script client → HasNoRaw before client) → (mid : Drill) →
     MakeAll (setting_of server script.opening) script.opening.clients before (opened_drill server script.opening) mid →

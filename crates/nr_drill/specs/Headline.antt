@@ -1,5 +1,5 @@
 -- What a drill promises: its run follows the script, both ends of each link keep their laws, and what these mean to callers.
-use Rattle.std.specs.Prelude.{◌≡◌, ◌≢◌, ℕ, ◌≤◌, false, List, [], ◌∷◌, ◌++◌, slice_get, None, Some, ◌↔◌}
+use Rattle.std.specs.Prelude.{◌≡◌, ◌≢◌, ℕ, ◌≤◌, false, List, [], ◌∷◌, ◌++◌, None, Some, ◌↔◌}
 use Rattle.nr_wire.specs.declared.hello.Side.TheVariants.{Initiator, Responder}
 use Rattle.nr_reduce.specs.declared.call.Call.{Call}
 use Rattle.nr_reduce.specs.declared.call.Form.{Form}
@@ -15,7 +15,7 @@ use Rattle.nr_reduce.specs.declared.mark.Mark.TheVariants as marks
 use Rattle.nr_reduce.specs.declared.mark.LinkParameters.{LinkParameters}
 use Rattle.nr_reduce.specs.declared.outline.Plan.{Plan}
 use Rattle.nr_reduce.specs.PlainJournal.{PlainServer}
-use Rattle.nr_reduce.specs.NumberedJournal.{JournaledByNumber, entries_alone, number_heard}
+use Rattle.nr_reduce.specs.NumberedJournal.{JournaledByNumber, HasNoEntryTwice, entries_alone, number_heard}
 use Rattle.nr_reduce.specs.ClientState.{call_payload}
 use Rattle.nr_reduce.specs.History.{AcceptedCall, completed_calls, bytes_sent, bytes_received, is_dropped}
 use Rattle.nr_reduce.specs.OutcomesDue.{outcomes_due}
@@ -66,7 +66,7 @@ pub record Completes (plain : PlainServer) (J : List Entry) (opened : LinkParame
   pub auto : (earlier before : List Mark) (call : Call) (xid : ℕ) (outcome : Outcome) → MarkAt run earlier (marks.Submit link call forms.Auto (submissions.Accepted xid)) →
       MarkAt run before (marks.Done link xid outcome) → (reply : List ℕ) × (outcome ≡ outcomes.Reply reply)
 
--- On every link, whatever a script puts into its pipes, the reply to each executed call that adds an entry goes out.
+-- The reply to each executed call that adds an entry goes out.
 abbrev pub AnswersChanges : SerialServer → LinkParameters → ℕ → List Mark → Type 0
 AnswersChanges server opened link run = (before : List Mark) (xid : ℕ) (moment : Moment) (payload : List ℕ) (place : ℕ) (reply : List ℕ) →
     MarkAt run before (marks.Execute link xid moment payload place reply) → server.adds moment payload reply ≢ [] → IsAnswered opened link before xid moment payload place reply
@@ -80,9 +80,9 @@ pub record Stays (script : ScriptLines) (opened : LinkParameters) (client link :
 
 -- ===== the run
 
--- A link is matched, and so is each link that its client had before.
-abbrev pub IsMatchedFromFirst : Setting → List Mark → ℕ → Type 0
-IsMatchedFromFirst s run link = (earlier : ℕ) → 1 ≤ earlier → earlier ≤ link → client_of s earlier ≡ client_of s link → Matched earlier run
+-- each link of the client of this one is matched
+abbrev pub LinksAreMatched : Setting → List Mark → ℕ → Type 0
+LinksAreMatched s run link = (other : ℕ) → 1 ≤ other → client_of s other ≡ client_of s link → Matched other run
 
 -- A call is submitted on a link for the first time, after the outcome of another was handed over. Its place isn't smaller, on whichever of its
 -- client's links it is executed.
@@ -96,12 +96,7 @@ PlacesRise s link other_link executing run = (before between before_first before
 
 -- ===== each change once
 
--- no two entries are of one call of a client that has a number
-abbrev pub HasNoEntryTwice : List TaggedEntry → Type 0
-HasNoEntryTwice T = (place other : ℕ) (t u : TaggedEntry) → slice_get T place ≡ Some t → slice_get T other ≡ Some u →
-    t.client ≢ 0 → t.client ≡ u.client → t.xid ≡ u.xid → place ≡ other
-
--- a call that completes on a link of such a client, with a reply that adds an entry, has its entry
+-- a call that completes on a link of a client that has a number, with a reply that adds an entry, has its entry
 abbrev pub ChangesHaveEntries : SerialServer → List TaggedEntry → (ℕ → LinkParameters) → ℕ → List Mark → Type 0
 ChangesHaveEntries server T opened link run = (before : List Mark) (xid : ℕ) (call : Call) (form : Form) (moment : Moment) (payload reply : List ℕ) →
     IsAskedFor opened link run xid call form → MarkAt run before (marks.Done link xid (outcomes.Reply reply)) →
@@ -118,16 +113,17 @@ pub record IsDrillRun (server : SerialServer) (script : ScriptLines) (run : List
   pub numbers : (link : ℕ) → IsLink follows.last link → number_heard run link ≡ ((last_setting follows).opened link).client.number
   pub laws : (link : ℕ) → IsLink follows.last link → KeepsLaws script ((last_setting follows).opened link) (client_of (last_setting follows) link) link run
   pub memory : (link : ℕ) → IsLink follows.last link → KeepsMemory ((last_setting follows).opened link) link run
-  pub outcomes : (link : ℕ) → IsLink follows.last link → IsMatchedFromFirst (last_setting follows) run link →
+  pub outcomes : (link : ℕ) → IsLink follows.last link → LinksAreMatched (last_setting follows) run link →
       Completes (plain_of server) (entries_alone (journal_of (last_setting follows) run)) ((last_setting follows).opened link) link run
-  pub changes : (link : ℕ) → IsLink follows.last link → AnswersChanges server ((last_setting follows).opened link) link run
+  pub changes : (link : ℕ) → IsLink follows.last link → (((last_setting follows).opened link).client.number ≢ 0 → LinksAreMatched (last_setting follows) run link) →
+      AnswersChanges server ((last_setting follows).opened link) link run
   pub places : (link other_link executing : ℕ) → IsLink follows.last link → IsLink follows.last other_link → IsLink follows.last executing →
-      client_of (last_setting follows) other_link ≡ client_of (last_setting follows) executing → IsMatchedFromFirst (last_setting follows) run link →
-      IsMatchedFromFirst (last_setting follows) run other_link → IsMatchedFromFirst (last_setting follows) run executing → PlacesRise (last_setting follows) link other_link executing run
+      client_of (last_setting follows) other_link ≡ client_of (last_setting follows) executing → LinksAreMatched (last_setting follows) run link →
+      LinksAreMatched (last_setting follows) run other_link → LinksAreMatched (last_setting follows) run executing → PlacesRise (last_setting follows) link other_link executing run
   pub once : HasNoEntryTwice (journal_of (last_setting follows) run)
-  pub entries : (link : ℕ) → IsLink follows.last link → ((last_setting follows).opened link).client.number ≢ 0 → IsMatchedFromFirst (last_setting follows) run link →
+  pub entries : (link : ℕ) → IsLink follows.last link → ((last_setting follows).opened link).client.number ≢ 0 → LinksAreMatched (last_setting follows) run link →
       ChangesHaveEntries server (journal_of (last_setting follows) run) (last_setting follows).opened link run
-  pub staying : (link : ℕ) → IsLink follows.last link → IsMatchedFromFirst (last_setting follows) run link → is_dropped link run ≡ false → HasNoRevoke link run →
+  pub staying : (link : ℕ) → IsLink follows.last link → LinksAreMatched (last_setting follows) run link → is_dropped link run ≡ false → HasNoRevoke link run →
       AreConveyedOrRefused ((last_setting follows).opened link) link run → Stays script ((last_setting follows).opened link) (client_of (last_setting follows) link) link run
   pub drains : (link : ℕ) → IsLink follows.last link → DrainStepsLeaveLess server script link
 

@@ -12,6 +12,7 @@
 //! A report keeps the marks, a line for each call, and a line for each link that was dropped and each side that ended.
 #![tactic(auto)]
 
+mod call_table;
 mod draft;
 mod laws;
 mod printing;

@@ -1,4 +1,4 @@
-//! The report of a run, by its marks and by what its links came to.
+//! The report of a run, by its marks, by the clients of its links, and by what their last links came to.
 
 ghost use Rattle.std.specs.Prelude.{◌≡◌, ◌+◌, ◌-◌, ◌≤◌, ◌++◌, length, map, IfOk, OnOk, slice_get};
 ghost use Rattle.nr_reduce.specs.declared.mark.Mark.TheVariants as marks;
@@ -7,9 +7,10 @@ ghost use Rattle.nr_texts.specs.Limits.{clients_max};
 ghost use Rattle.nr_drill.specs.Headline.{log_of};
 ghost use Rattle.nr_drill.specs.LinkEnds.{ReportsRuns};
 ghost use Rattle.nr_drill.specs.Reports.{side_report};
-ghost use Rattle.nr_drill.specs.private.Drafts.{AddsToLog, AreCalls, AreNumbered, at_last_by, gone_by, is_open, link_report_by, link_reports_from};
+ghost use Rattle.nr_drill.specs.private.Drafts.{AddsToLog, TellsCalls, at_last_by, gone_by, is_open, link_report_by, link_reports_from};
 
-use crate::draft::{Draft, draft_of, index};
+use crate::call_table::index;
+use crate::draft::{Draft, draft_of};
 use crate::report::{CallReport, CallState, LinkEnds, LinkLog, LinkReport, LinkState, Report};
 use nr_link::End;
 use nr_marks::{MarkList, MarkLog, MarkView};
@@ -18,20 +19,20 @@ use nr_wire::Side;
 use nr_xdr::{Memory, Octets};
 use std::alloc::Global;
 
-/// A side of a link that ended.
+/// A side of a client's link that ended.
 fn push_side(
     reports: &mut Vec<LinkReport>,
-    link: u32,
+    client: u32,
     side: Side,
     end: Option<End>,
 ) -> Result<(), Memory>
-    ensures { OnOk result (reports.new.items ≡ reports.old.items ++ side_report link side end) }
+    ensures { OnOk result (reports.new.items ≡ reports.old.items ++ side_report client side end) }
 {
     match end {
         None => Ok(()),
         Some(end) => {
             reports.push(LinkReport {
-                client: link,
+                client,
                 state: LinkState::Ended { side, end },
             })?;
             Ok(())
@@ -39,22 +40,22 @@ fn push_side(
     }
 }
 
-/// What is reported of a link.
-fn push_link(reports: &mut Vec<LinkReport>, link: u32, ends: LinkEnds) -> Result<(), Memory>
-    ensures { OnOk result (reports.new.items ≡ reports.old.items ++ link_report_by link ends) }
+/// What is reported of the last link of a client.
+fn push_link(reports: &mut Vec<LinkReport>, client: u32, ends: LinkEnds) -> Result<(), Memory>
+    ensures { OnOk result (reports.new.items ≡ reports.old.items ++ link_report_by client ends) }
 {
     if ends.dropped {
         reports.push(LinkReport {
-            client: link,
+            client,
             state: LinkState::Dropped,
         })?;
         return Ok(());
     }
-    push_side(reports, link, Side::Initiator, ends.client)?;
-    push_side(reports, link, Side::Responder, ends.server)
+    push_side(reports, client, Side::Initiator, ends.client)?;
+    push_side(reports, client, Side::Responder, ends.server)
 }
 
-/// What is reported of links, the first of which is that of client 1.
+/// What is reported of the last links of clients, the first of which is that of client 1.
 fn link_reports(alloc: Global, ends: &[LinkEnds]) -> Result<Vec<LinkReport>, Memory>
     requires { length ends.now ≤ clients_max }
     ensures { IfOk result (λ reports. reports.items ≡ link_reports_from 1 ends.now) }
@@ -66,11 +67,11 @@ fn link_reports(alloc: Global, ends: &[LinkEnds]) -> Result<Vec<LinkReport>, Mem
     Ok(reports)
 }
 
-/// Whether a link was dropped, or its client ended.
-fn is_gone(ends: &[LinkEnds], link: u32) -> bool
-    ensures { result ≡ gone_by (slice_get ends.now (link - 1)) }
+/// Whether the last link of a client was dropped, or the client ended there.
+fn is_gone(ends: &[LinkEnds], client: u32) -> bool
+    ensures { result ≡ gone_by (slice_get ends.now (client - 1)) }
 {
-    match ends.get(index(link)) {
+    match ends.get(index(client)) {
         Some(ends) => ends.dropped || ends.client.is_some(),
         None => false,
     }
@@ -86,7 +87,7 @@ fn is_open(state: &CallState) -> bool
     }
 }
 
-/// Reports a call as lost that is open on a link that was dropped, or whose client ended.
+/// Reports a call as lost that is open, and whose client's last link was dropped, or whose client ended there.
 fn settle_one(report: &mut CallReport, ends: &[LinkEnds])
     ensures { report.new ≡ at_last_by ends.now report.old }
 {
@@ -201,27 +202,33 @@ struct ReportParts {
 fn calls_of(
     alloc: Global,
     marks: &MarkList,
+    clients: &[u32],
     ends: &[LinkEnds],
 ) -> Result<(Vec<CallReport>, Vec<Entry>), Memory>
     requires { length ends.now ≤ clients_max }
-    ensures { IfOk result (λ told. AreNumbered (length ends.now) marks.now → AreCalls marks.now ends.now told.0.items told.1.items) }
+    ensures { IfOk result (λ told. TellsCalls clients.now marks.now ends.now told.0.items told.1.items) }
 {
     let Draft {
         mut calls,
         journal,
         ..
-    } = draft_of(alloc, ends.len() as u32, marks)?;
+    } = draft_of(alloc, clients, ends.len() as u32, marks)?;
     settle(calls.as_mut_slice(), ends);
     Ok((calls, journal))
 }
 
 /// What a report says beside its marks.
-fn report_parts(alloc: Global, marks: &MarkList, ends: &[LinkEnds]) -> Result<ReportParts, Memory>
+fn report_parts(
+    alloc: Global,
+    marks: &MarkList,
+    clients: &[u32],
+    ends: &[LinkEnds],
+) -> Result<ReportParts, Memory>
     requires { length ends.now ≤ clients_max }
-    ensures calls { IfOk result (λ told. AreNumbered (length ends.now) marks.now → AreCalls marks.now ends.now told.calls.items told.journal.items) }
+    ensures calls { IfOk result (λ told. TellsCalls clients.now marks.now ends.now told.calls.items told.journal.items) }
     ensures links { IfOk result (λ told. told.links.items ≡ link_reports_from 1 ends.now) }
 {
-    let (calls, journal) = calls_of(alloc, marks, ends)?;
+    let (calls, journal) = calls_of(alloc, marks, clients, ends)?;
     let links = link_reports(alloc, ends)?;
     Ok(ReportParts {
         journal,
@@ -230,22 +237,28 @@ fn report_parts(alloc: Global, marks: &MarkList, ends: &[LinkEnds]) -> Result<Re
     })
 }
 
-/// The report of a run, by its marks and by what its links came to, in order.
+/// The report of a run, by its marks, by the client of each link, in the order of the links' numbers, and by what the last link of each client came
+/// to, in the order of the clients' numbers.
 ///
 /// # Errors
 ///
 /// [`Memory`] if memory ran out.
-pub fn report_of(alloc: Global, marks: MarkLog, ends: &[LinkEnds]) -> Result<Report, Memory>
+pub fn report_of(
+    alloc: Global,
+    marks: MarkLog,
+    clients: &[u32],
+    ends: &[LinkEnds],
+) -> Result<Report, Memory>
     requires { length ends.now ≤ clients_max }
     ensures marks { IfOk result (λ report. report.marks ≡ marks) }
-    // Of the run of a drill whose links came to that it says what its marks say.
-    ensures reports { IfOk result (λ report. ReportsRuns marks ends.now report) }
+    // Of the run of a drill whose links have these clients, and whose last links came to that, it says what its marks say.
+    ensures reports { IfOk result (λ report. ReportsRuns marks clients.now ends.now report) }
 {
     let marks = match marks.finish() {
         Ok(marks) => marks,
         Err(memory) => return Err(memory),
     };
-    match report_parts(alloc, &marks, ends) {
+    match report_parts(alloc, &marks, clients, ends) {
         Ok(
             ReportParts {
                 journal,

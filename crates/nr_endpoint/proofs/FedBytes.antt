@@ -14,6 +14,7 @@ use Rattle.nr_wire.proofs.Feedings.{feeding_after_step-whole, feeding_after_step
 use Rattle.nr_link.specs.declared.end.End.{End}
 use Rattle.nr_link.specs.Frames.{Frame}
 use Rattle.nr_link.specs.declared.agreement.SideTerms.{SideTerms}
+use Rattle.nr_link.specs.declared.agreement.Agreement.{Agreement}
 use Rattle.nr_endpoint.specs.FedBytes.{fed_bytes}
 use Rattle.nr_endpoint.specs.ReceiveQueue.{DeliveredEvent, lent_for}
 use Rattle.nr_endpoint.specs.ReceiveQueue.DeliveredEvent.{MessageReceived}
@@ -141,9 +142,9 @@ message_lent before after number invalidated bytes first is =
     let one : lent_for before.state.receive_queue.deliveries ≡ 1 = ap (λ (n : List DeliveredEvent). lent_for n) first in
     omega (arith, lent, one)
 
-pub open_fed : (l : LinkSide) (side : Side) (receives stag : ℕ) (terms : SideTerms) → l ≡ initial_link side receives stag terms → fed_bytes l ≡ 0
+pub open_fed : (l : LinkSide) (side : Side) (receives stag : ℕ) (terms : SideTerms) (earlier : Option Agreement) → l ≡ initial_link side receives stag terms earlier → fed_bytes l ≡ 0
 unfolding initial_link
-open_fed l side receives stag terms is = ap (λ (x : LinkSide). fed_bytes x) is
+open_fed l side receives stag terms earlier is = ap (λ (x : LinkSide). fed_bytes x) is
 
 pub register_fed : (before after : LinkSide) (buf : List ℕ) (right : Right) → after ≡ after_call before (Register buf right) → fed_bytes after ≡ fed_bytes before
 unfolding after_call

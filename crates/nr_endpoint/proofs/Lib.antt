@@ -41,6 +41,7 @@ pub mod QueuedItems
 pub mod Bounds
 pub mod KeptLists
 pub mod AgreesByHellos
+pub mod KeptSizes
 pub mod Received
 pub mod OneDelivery
 pub mod ReceivedEvents

@@ -127,7 +127,7 @@ request_len msn sink sink_to size stag to =
       length_hyper to,
     )
 
-terminate_len : (n : ℕ) → length (terminate_message n) ≤ frame_max
+pub terminate_len : (n : ℕ) → length (terminate_message n) ≤ frame_max
 unfolding terminate_message
 terminate_len n = omega (arith, encoding_len (Untagged true OPCODE_TERMINATE 0 QUEUE_TERMINATE 1 0 (word n)), length_word n)
 
@@ -227,6 +227,10 @@ pub end_hello : (side : Side) (end : End) (q : SendQueue) → length (with_end s
 unfolding with_end
 end_hello side end q = length-append q.hello (rejection side end)
 
+pub end_held : (side : Side) (end : End) (q : SendQueue) → (with_end side end q).held ≡ q.held
+unfolding with_end
+end_held side end q = refl
+
 -- some bytes were written
 fpdus_within : (for_send for_response others spare m : ℕ) (q : SendQueue) → QueueWithin for_send for_response others spare q → QueueWithin for_send for_response others spare (fpdus_written m q)
 fpdus_within for_send for_response others spare m q fits n =
@@ -241,3 +245,7 @@ written_within for_send for_response others spare n q fits = fpdus_within for_se
 pub written_hello : (n : ℕ) (q : SendQueue) → length (written n q).hello ≤ length q.hello
 unfolding written
 written_hello n q = omega (arith, length-drop n q.hello)
+
+pub written_held : (n : ℕ) (q : SendQueue) → (written n q).held ≡ q.held
+unfolding written
+written_held n q = refl

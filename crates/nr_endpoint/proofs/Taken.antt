@@ -67,21 +67,21 @@ counted_request terms greeted q place most n counted some = record {
 }
 
 pub took_send : (s : LinkState) (q : ReceiveQueue) (named : Option ℕ) (last : Bool) (payload frame : List ℕ) → q ≡ with_segment (send_segment named last payload) s.receive_queue →
-    record { side = s.side; has_hello = s.has_hello; last = s.place; place = s.place + length frame; ended = s.ended; receive_queue = q; reads = s.reads; memory = s.memory; send_queue = s.send_queue; terms = s.terms; private = s.private; agreed = s.agreed; message_max = s.message_max; client = s.client }
+    record { side = s.side; has_hello = s.has_hello; last = s.place; place = s.place + length frame; ended = s.ended; receive_queue = q; reads = s.reads; memory = s.memory; send_queue = s.send_queue; terms = s.terms; private = s.private; agreed = s.agreed; message_max = s.message_max; client = s.client; earlier = s.earlier }
     ≡ after_frame (next_frame s frame) (with_effect (send_segment named last payload) s)
 unfolding with_effect
 took_send s q None last payload frame is =
-    λ i. record { side = s.side; has_hello = s.has_hello; last = s.place; place = s.place + length frame; ended = s.ended; receive_queue = is i; reads = s.reads; memory = s.memory; send_queue = s.send_queue; terms = s.terms; private = s.private; agreed = s.agreed; message_max = s.message_max; client = s.client }
+    λ i. record { side = s.side; has_hello = s.has_hello; last = s.place; place = s.place + length frame; ended = s.ended; receive_queue = is i; reads = s.reads; memory = s.memory; send_queue = s.send_queue; terms = s.terms; private = s.private; agreed = s.agreed; message_max = s.message_max; client = s.client; earlier = s.earlier }
 took_send s q (Some stag) last payload frame is =
-    λ i. record { side = s.side; has_hello = s.has_hello; last = s.place; place = s.place + length frame; ended = s.ended; receive_queue = is i; reads = s.reads; memory = s.memory; send_queue = s.send_queue; terms = s.terms; private = s.private; agreed = s.agreed; message_max = s.message_max; client = s.client }
+    λ i. record { side = s.side; has_hello = s.has_hello; last = s.place; place = s.place + length frame; ended = s.ended; receive_queue = is i; reads = s.reads; memory = s.memory; send_queue = s.send_queue; terms = s.terms; private = s.private; agreed = s.agreed; message_max = s.message_max; client = s.client; earlier = s.earlier }
 
 pub took_request : (s : LinkState) (q : ReceiveQueue) (sends : SendQueue) (r : ReadRequest) (bytes payload frame : List ℕ) → q ≡ with_segment (Untagged true OPCODE_READ_REQUEST 0 0 0 0 []) s.receive_queue →
     sends ≡ with_response r.sink r.sink_to bytes s.send_queue → r ≡ read_request_in payload → bytes ≡ bytes_at s.memory (fetch_access r) →
-    record { side = s.side; has_hello = s.has_hello; last = s.place; place = s.place + length frame; ended = s.ended; receive_queue = q; reads = s.reads; memory = s.memory; send_queue = sends; terms = s.terms; private = s.private; agreed = s.agreed; message_max = s.message_max; client = s.client }
+    record { side = s.side; has_hello = s.has_hello; last = s.place; place = s.place + length frame; ended = s.ended; receive_queue = q; reads = s.reads; memory = s.memory; send_queue = sends; terms = s.terms; private = s.private; agreed = s.agreed; message_max = s.message_max; client = s.client; earlier = s.earlier }
     ≡ after_frame (next_frame s frame) (with_effect (Untagged true OPCODE_READ_REQUEST 0 0 0 0 payload) s)
 unfolding with_effect with_segment
 took_request s q sends r bytes payload frame is queued request fetched =
-    (λ i. record { side = s.side; has_hello = s.has_hello; last = s.place; place = s.place + length frame; ended = s.ended; receive_queue = is i; reads = s.reads; memory = s.memory; send_queue = queued i; terms = s.terms; private = s.private; agreed = s.agreed; message_max = s.message_max; client = s.client })
+    (λ i. record { side = s.side; has_hello = s.has_hello; last = s.place; place = s.place + length frame; ended = s.ended; receive_queue = is i; reads = s.reads; memory = s.memory; send_queue = queued i; terms = s.terms; private = s.private; agreed = s.agreed; message_max = s.message_max; client = s.client; earlier = s.earlier })
     ∙ (λ i. record {
       side = s.side;
       has_hello = s.has_hello;
@@ -97,6 +97,7 @@ took_request s q sends r bytes payload frame is queued request fetched =
       agreed = s.agreed;
       message_max = s.message_max;
       client = s.client;
+      earlier = s.earlier;
     })
     ∙ (λ i. record {
       side = s.side;
@@ -113,6 +114,7 @@ took_request s q sends r bytes payload frame is queued request fetched =
       agreed = s.agreed;
       message_max = s.message_max;
       client = s.client;
+      earlier = s.earlier;
     })
 
 -- of an untagged segment, the opcode, the L bit and the payload count

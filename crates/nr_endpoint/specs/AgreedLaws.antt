@@ -1,13 +1,14 @@
 -- What is agreed on a side, after any calls.
 use Rattle.std.specs.Prelude.{◌≡◌, ℕ, ◌≤◌, Bool, true, false, List, take, Ok, Option}
 use Rattle.nr_wire.specs.declared.hello.Side.{Side}
+use Rattle.nr_wire.specs.declared.hello.Side.TheVariants.{Initiator}
 use Rattle.nr_wire.specs.declared.stream.Awaited.TheVariants.{Hello as HelloFrom}
 use Rattle.nr_wire.specs.Stream.{is_whole, frame_len}
 use Rattle.nr_wire.specs.Hello.{Hello, hello_of, peer}
 use Rattle.nr_link.specs.declared.agreement.SideTerms.{SideTerms}
 use Rattle.nr_link.specs.declared.agreement.Agreement.{Agreement}
 use Rattle.nr_link.specs.Agreement.{default_agreement, IsSendLimit}
-use Rattle.nr_endpoint.specs.Hellos.{own_private, side_agreement, received_max, first_client, client_heard, receive_length_for}
+use Rattle.nr_endpoint.specs.Hellos.{own_private, side_agreement, has_same_sizes, received_max, first_client, client_heard, receive_length_for}
 use Rattle.nr_endpoint.specs.LinkState.{initial_link}
 use Rattle.nr_endpoint.specs.Calls.{Call, after_calls}
 use Rattle.nr_endpoint.specs.Laws.{bytes_fed}
@@ -41,3 +42,9 @@ AgreesByHellos = (side : Side) (receives first_stag : ℕ) (terms : SideTerms) (
     let start = initial_link side receives first_stag terms earlier in
     let s = (after_calls start calls).state in
     IsAgreed terms side (bytes_fed start calls) s.has_hello s.private s.agreed s.message_max s.client
+
+-- An initiator that accepted a hello has agreed on the same lengths of Sends as on an earlier link, if there was one: else the hello ended it.
+abbrev pub KeepsSizes : Type 0
+KeepsSizes = (receives first_stag : ℕ) (terms : SideTerms) (earlier : Option Agreement) (calls : List Call) →
+    let s = (after_calls (initial_link Initiator receives first_stag terms earlier) calls).state in
+    s.has_hello ≡ true → has_same_sizes earlier s.agreed ≡ true

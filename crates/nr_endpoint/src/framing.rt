@@ -1,6 +1,6 @@
 //! FPDUs at the end of some bytes: segments, and messages and accesses cut into segments.
 
-ghost use Rattle.std.specs.Prelude.{◌≡◌, ◌+◌, ◌*◌, ◌^◌, ◌<◌, ◌≤◌, ◌++◌, if◌then◌else◌, length, All, IfOk, OnOk, OnErr};
+ghost use Rattle.std.specs.Prelude.{◌≡◌, ◌+◌, ◌*◌, ◌^◌, ◌<◌, ◌≤◌, ◌++◌, if◌then◌else◌, length, true, All, IfOk, OnOk, OnErr};
 ghost use Rattle.nr_wire.specs.Segment.{IsWritable, encoding, payload_in};
 ghost use Rattle.nr_wire.specs.Segment.Segment.{Untagged};
 ghost use Rattle.nr_wire.specs.View.{segment as plain};

@@ -1,7 +1,7 @@
 //! Laws of an endpoint, over the calls that it stands for.
 
 ghost use Rattle.nr_endpoint.specs.ReceivedLaws.{EventsOfReceivedBytes, ReceivedBytes};
-ghost use Rattle.nr_endpoint.specs.AgreedLaws.{AgreesByHellos};
+ghost use Rattle.nr_endpoint.specs.AgreedLaws.{AgreesByHellos, KeepsSizes};
 ghost use Rattle.nr_endpoint.specs.KeptLists.{HeldRegionsAreRegistered, WaitingSendsHaveBytes};
 ghost use Rattle.nr_endpoint.specs.OutputLaws.{AllowedCallsJoin, FpdusFollowHello, OutputIsItems, SendsGoByItems, SendsWaitByItems, ResponsesGoByItems, SidesStayBounded};
 ghost use Rattle.nr_endpoint.specs.DeliveryLaws.{EventsAreDelivered, EventsAreInOrder, EventsFollowAccesses, OneFrameDeliversAtItsEnd, OneFrameDeliversOnce};
@@ -66,7 +66,8 @@ pub fn claims_stay()
     ensures { ClaimsStay }
 {}
 
-/// Before the peer's hello was accepted, a side writes its hello alone (RFC 5044 section 7.1).
+/// Before the peer's hello was accepted, a side writes its hello alone, and after it the Terminate by which an initiator refuses the lengths of
+/// Sends that the peer's agrees on (RFC 5044 section 7.1).
 pub fn no_fpdu_before_hello()
     ensures { NoFpduBeforeHello }
 {}
@@ -95,7 +96,9 @@ pub fn sides_stay_bounded()
 /// and a message
 /// within it fits a receive.
 pub fn agrees_by_hellos()
-    ensures { AgreesByHellos }
+    ensures by_hellos { AgreesByHellos }
+    // If an earlier link agreed on other lengths of Sends, the hello ends an initiator.
+    ensures sizes { KeepsSizes }
 {}
 
 /// The lists of a side that only its calls bound: at most as many Sends wait as there are bytes of FPDUs to write, and as many regions are held as were
@@ -105,8 +108,8 @@ pub fn lists_stay_bounded()
     ensures regions { HeldRegionsAreRegistered }
 {}
 
-/// A hello ends a side only for the reasons 1 to 4, an FPDU only for the reasons 5 to 16 and 22, a denied access, a Send without a receive, or
-/// a Terminate. For any other reason the layer above stopped it. Once a side has ended, it queues nothing: it sends one Terminate at most
+/// A hello ends a side only for the reasons 1 to 4, and a responder's for 31, if an earlier link agreed on other lengths of Sends; an FPDU only for
+/// the reasons 5 to 16 and 22, a denied access, a Send without a receive, or a Terminate. For any other reason the layer above stopped it. Once a side has ended, it queues nothing: it sends one Terminate at most
 /// (RFC 5040 section 4.8).
 pub fn reasons_of_frames()
     ensures frames { FramesEndForThese }

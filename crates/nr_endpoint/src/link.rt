@@ -71,7 +71,6 @@ impl Model for LinkSide {
 }
 
 /// No regions. The first one that is registered gets this STag, from 1 on; 2^32 means that none is left.
-#[tactic(auto, using(crate::proofs::FreshRegions::spent_memory))]
 fn fresh_regions(alloc: Global, first_stag: u64) -> Result<Regions, Memory>
     requires some { 0 < first_stag }
     requires most { first_stag ≤ 2 ^ 32 }

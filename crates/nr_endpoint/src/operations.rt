@@ -128,6 +128,10 @@ impl LinkSide {
     pub fn send_held(&mut self)
         ensures first { (message : List ℕ) (others : List (List ℕ)) → self.old.state.send_queue.held ≡ message ∷ others → self.new ≡ record self.old { state = unless_ended self.old.state (record self.old.state { send_queue = with_held_sent message self.old.state.send_queue }) } }
         ensures none { self.old.state.send_queue.held ≡ [] → self.new ≡ self.old }
+        ensures ended { self.new.state.ended ≡ self.old.state.ended }
+        ensures greeted { self.new.state.has_hello ≡ self.old.state.has_hello }
+        ensures room { self.new.room ≡ self.old.room }
+        ensures outside { self.new.outside ≡ self.old.outside }
     {
         if self.ended.is_some() {
             return;

@@ -57,6 +57,7 @@ impl Model for SendQueue {
 
     ghost view = { λ q. record { hello = q.hello.items; fpdus = q.fpdus.items; send_ends = q.send_ends.items; response_ends = q.response_ends.items; sends_left = q.sends_left; last_send = q.last_send; last_request = q.last_request; held = q.held.items } };
 
+    ghost use Rattle.std.specs.VecDeque.{deque_capacity};
     ghost use Rattle.nr_endpoint.specs.private.HeldSends.{HasRoomFor};
 
     ghost invariant = { λ q. HasRoomFor q.held.items q.held_len q.fpdus.kept q.send_ends.items (deque_capacity q.send_ends) };
@@ -144,6 +145,7 @@ fn write_queue<K: Sink>(
         × (hello.new.items ≡ drop n hello.old.items) × (fpdus.new.items ≡ drop (n - length hello.old.items) fpdus.old.items)
         × Appends (K.taken sink.old) (K.taken sink.new) (take n (hello.old.items ++ (if has_hello then fpdus.old.items else [])))
         × OnOk result.1 (n ≡ length (hello.old.items ++ (if has_hello then fpdus.old.items else []))) }
+    ensures kept { fpdus.new.kept ≡ fpdus.old.kept }
     ensures counted { MatchResult result.1
         (λ _. K.faults sink.new ≡ K.faults sink.old) (λ _. Rises (K.faults sink.old) (K.faults sink.new)) }
     ensures never_falls { K.faults sink.old ≤ K.faults sink.new }
@@ -439,6 +441,7 @@ impl SendQueue {
 
     /// Drops the ends of Sends and Read Responses that the first `n` bytes of the FPDUs reach, which were written. The Sends are
     /// counted.
+    #[tactic(auto, using(crate::proofs::SendQueues::ends_left_fewer))]
     fn retire_written(&mut self, n: usize)
         ensures { self.new ≡ record self.old {
           send_ends = ends_left n self.old.send_ends;

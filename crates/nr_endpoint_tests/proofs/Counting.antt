@@ -13,12 +13,13 @@ use Rattle.nr_wire.proofs.Splits.{split_Splits}
 use Rattle.nr_regions.specs.declared.right.Right.{Right}
 use Rattle.nr_regions.specs.RegisteredMemory.{Claim, IsHeld, RegisteredMemory, claim_of}
 use Rattle.nr_link.specs.declared.agreement.SideTerms.{SideTerms}
+use Rattle.nr_link.specs.declared.agreement.Agreement.{Agreement}
 use Rattle.nr_link.specs.declared.end.End.{End}
 use Rattle.nr_link.specs.declared.end.End.TheVariants as ends
 use Rattle.nr_endpoint.specs.LinkState.{LinkState, LinkSide, has_ended, initial_link}
 use Rattle.nr_endpoint.specs.Judging.{with_frame, with_end_of}
 use Rattle.nr_endpoint.specs.Calls.{Call, after_call, after_calls}
-use Rattle.nr_endpoint.specs.Calls.Call.{Feed, FeedOne, NextEvent, Post, Stop, OutOfMemory, Send, SendInvalidate, WriteRemote, ReadRemote, Drain, Register, Release, Invalidate}
+use Rattle.nr_endpoint.specs.Calls.Call.{Feed, FeedOne, NextEvent, Post, Stop, OutOfMemory, Send, SendInvalidate, Hold, SendHeld, WriteRemote, ReadRemote, Drain, Register, Release, Invalidate}
 use Rattle.nr_endpoint.specs.FedBytes.{fed_bytes}
 use Rattle.nr_endpoint.proofs.Pieces.{frame_place}
 use Rattle.nr_endpoint.proofs.FedBytes.{fed_within, fed_one_within, send_fed, write_fed_lem, read_fed, register_fed, open_fed}
@@ -229,6 +230,24 @@ unfolding after_call
 after_send_invalidate l after stag message most least region is c =
     quiet l after (SendInvalidate stag message) most least region is (invalidate_fed l stag message) (end_stays_lem l.state _ (has_ended l.state) refl) (λ released e. cc) c
 
+hold_fed : (l : LinkSide) (message : List ℕ) → fed_bytes (after_call l (Hold message)) ≡ fed_bytes l
+unfolding after_call
+hold_fed l message = ap (λ (n : ℕ). n + length l.rest) (place_stays l.state _ (has_ended l.state) refl)
+
+after_hold : (l after : LinkSide) (message : List ℕ) (most least : ℕ) (region : Option Claim) → after ≡ after_call l (Hold message) → IsCounted l most least region → IsCounted after most least region
+unfolding after_call
+after_hold l after message most least region is c =
+    quiet l after (Hold message) most least region is (hold_fed l message) (end_stays_lem l.state _ (has_ended l.state) refl) (λ stag e. cc) c
+
+held_fed : (l : LinkSide) (message : List ℕ) → fed_bytes (after_call l (SendHeld message)) ≡ fed_bytes l
+unfolding after_call
+held_fed l message = ap (λ (n : ℕ). n + length l.rest) (place_stays l.state _ (has_ended l.state) refl)
+
+after_send_held : (l after : LinkSide) (message : List ℕ) (most least : ℕ) (region : Option Claim) → after ≡ after_call l (SendHeld message) → IsCounted l most least region → IsCounted after most least region
+unfolding after_call
+after_send_held l after message most least region is c =
+    quiet l after (SendHeld message) most least region is (held_fed l message) (end_stays_lem l.state _ (has_ended l.state) refl) (λ stag e. cc) c
+
 after_invalidated : (l after : LinkSide) (stag : ℕ) (most least : ℕ) (region : Option Claim) → after ≡ after_call l (Invalidate stag) →
     IsCounted l most least region → IsCounted after most least region
 unfolding after_call
@@ -254,6 +273,20 @@ pub send_counted : {A E : Type 0} (l after : LinkSide) (message : List ℕ) (r :
 send_counted l after message (Ok u) most least region fine none c = after_send l after message most least region fine c
 send_counted l after message (Err e) most least region fine none c = same_link l after most least region none c
 
+pub hold_counted : {A E : Type 0} (l after : LinkSide) (message : List ℕ) (r : Result A E) (most least : ℕ) (region : Option Claim) → OnOk r (after ≡ after_call l (Hold message)) →
+    OnErr r (after ≡ l) → IsCounted l most least region → IsCounted after most least region
+hold_counted l after message (Ok u) most least region fine none c = after_hold l after message most least region fine c
+hold_counted l after message (Err e) most least region fine none c = same_link l after most least region none c
+
+pub send_held_counted : (l after : LinkSide) (most least : ℕ) (region : Option Claim) →
+    ((message : List ℕ) (others : List (List ℕ)) → l.state.send_queue.held ≡ message ∷ others → after ≡ after_call l (SendHeld message)) → (l.state.send_queue.held ≡ [] → after ≡ l) →
+    IsCounted l most least region → IsCounted after most least region
+send_held_counted l after most least region some none c = by l.state.send_queue.held refl
+  where
+    by : (held : List (List ℕ)) → l.state.send_queue.held ≡ held → IsCounted after most least region
+    by [] is = same_link l after most least region (none is) c
+    by (message ∷ others) is = after_send_held l after message most least region (some message others is) c
+
 pub invalidate_counted : {A E : Type 0} (l after : LinkSide) (stag : ℕ) (message : List ℕ) (r : Result A E) (most least : ℕ) (region : Option Claim) →
     OnOk r (after ≡ after_call l (SendInvalidate stag message)) → OnErr r (after ≡ l) → IsCounted l most least region → IsCounted after most least region
 invalidate_counted l after stag message (Ok u) most least region fine none c = after_send_invalidate l after stag message most least region fine c
@@ -276,8 +309,8 @@ read_counted_lem l after sink at stag to len (Err e) most least region fine none
 
 -- ---- Regions
 
-pub open_counted : (l : LinkSide) (side : Side) (receives stag : ℕ) (terms : SideTerms) → l ≡ initial_link side receives stag terms → IsCounted l 0 0 None
-open_counted l side receives stag terms is = record { most_fed = omega (arith, open_fed l side receives stag terms is); least_fed = λ none. omega arith; held = tt }
+pub open_counted : (l : LinkSide) (side : Side) (receives stag : ℕ) (terms : SideTerms) (earlier : Option Agreement) → l ≡ initial_link side receives stag terms earlier → IsCounted l 0 0 None
+open_counted l side receives stag terms earlier is = record { most_fed = omega (arith, open_fed l side receives stag terms earlier is); least_fed = λ none. omega arith; held = tt }
 
 register_ended : (l after : LinkSide) (buf : List ℕ) (right : Right) → after ≡ after_call l (Register buf right) → after.state.ended ≡ l.state.ended
 unfolding after_call

@@ -5,7 +5,7 @@ ghost use Rattle.nr_endpoint.specs.Calls.{IsStopReason};
 
 use crate::short_sink::ShortSink;
 use nr_endpoint::{DrainFault, Endpoint, Event, ReadRefused};
-use nr_link::{End, SideTerms};
+use nr_link::{Agreement, End, SideTerms};
 use nr_outside::MemSink;
 use nr_regions::{Denied, Registration, Right};
 use nr_wire::Side;
@@ -104,6 +104,21 @@ impl TestEndpoint {
         }
     }
 
+    /// An initiator of a next link, with what an earlier hello agreed on.
+    pub fn open_again(
+        rt: &impl Abort,
+        alloc: Global,
+        terms: SideTerms,
+        earlier: Agreement,
+    ) -> TestEndpoint {
+        TestEndpoint {
+            endpoint: Endpoint::open_again(alloc, 2, 1, terms, Some(earlier)).expect(rt, "memory"),
+            most: 0,
+            least: 0,
+            region: None,
+        }
+    }
+
     /// The endpoint, for all that changes nothing.
     pub fn endpoint(&self) -> &Endpoint {
         &self.endpoint
@@ -164,6 +179,18 @@ impl TestEndpoint {
     ) -> Result<(), Memory> {
         check(rt, front.len() + stream.len() < MANY);
         self.endpoint.send_parts(front, stream)
+    }
+
+    /// Holds a Send back.
+    pub fn hold(&mut self, rt: &impl Abort, alloc: Global, message: &[u8]) -> Result<(), Memory> {
+        check(rt, message.len() < MANY);
+        let message = Octets::from_slice(alloc, message).expect(rt, "memory");
+        self.endpoint.hold(message)
+    }
+
+    /// Queues the first Send that is held back.
+    pub fn send_held(&mut self) {
+        self.endpoint.send_held();
     }
 
     /// Queues a Send with Invalidate of the peer's region.

@@ -6,19 +6,34 @@ use crate::endpoint::TestEndpoint;
 use crate::line::Line;
 use crate::queueing::queued;
 use crate::words::{put_byte, put_words};
-use nr_link::{End, SideTerms};
+use nr_link::{Agreement, End, SideTerms};
 use nr_regions::Right;
 use std::alloc::Global;
 use std::process::Abort;
 
-/// `open UNITS NUMBER INVALIDATES`: another endpoint, with these terms.
-fn open(rt: &impl Abort, alloc: Global, endpoint: &mut TestEndpoint, line: &Line<'_>) {
-    let terms = SideTerms {
+/// The terms of a line: UNITS NUMBER INVALIDATES.
+fn terms_in(rt: &impl Abort, line: &Line<'_>) -> SideTerms {
+    SideTerms {
         units: line.units(rt, 0),
         number: line.number(rt, 1),
         invalidates: line.number(rt, 2) == 1,
-    };
+    }
+}
+
+/// `open UNITS NUMBER INVALIDATES`: another endpoint, with these terms.
+fn open(rt: &impl Abort, alloc: Global, endpoint: &mut TestEndpoint, line: &Line<'_>) {
+    let terms = terms_in(rt, line);
     *endpoint = TestEndpoint::open_with(rt, alloc, line.setting.side, terms);
+}
+
+/// `open-again UNITS NUMBER INVALIDATES UP DOWN`: an initiator of a next link, with the lengths of Sends that an earlier hello agreed on.
+fn open_again(rt: &impl Abort, alloc: Global, endpoint: &mut TestEndpoint, line: &Line<'_>) {
+    let earlier = Agreement {
+        up: line.word(rt, 3),
+        down: line.word(rt, 4),
+        invalidates: false,
+    };
+    *endpoint = TestEndpoint::open_again(rt, alloc, terms_in(rt, line), earlier);
 }
 
 /// The end of a side as an error.
@@ -90,6 +105,7 @@ pub fn fed(rt: &impl Abort, alloc: Global, endpoint: &mut TestEndpoint, line: &L
     let piece = line.setting.piece;
     match line.name {
         "open" => open(rt, alloc, endpoint, line),
+        "open-again" => open_again(rt, alloc, endpoint, line),
         "briefly" => endpoint.register_briefly(rt, alloc, line.bytes, Right::Fill),
         "feed" => {
             let fed = feed_pieces(rt, line.row, endpoint, line.bytes, piece);

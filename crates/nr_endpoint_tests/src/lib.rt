@@ -26,6 +26,8 @@ mod looking;
 #[cfg(test)]
 mod messages;
 #[cfg(test)]
+mod next_links;
+#[cfg(test)]
 mod offers;
 #[cfg(test)]
 mod output;

@@ -88,6 +88,7 @@ fn stands(rt: &impl Abort, alloc: Global, endpoint: &Endpoint, line: &Line<'_>) 
         "live" => shown(rt, alloc, &live(endpoint)),
         "held" => shown(rt, alloc, &endpoint.held()),
         "bytes-held" => shown(rt, alloc, &endpoint.regions().bytes_held()),
+        "sends-held" => shown(rt, alloc, &endpoint.sends_held()),
         "sends-left" => shown(rt, alloc, &endpoint.sends_left()),
         "receives-free" => shown(rt, alloc, &endpoint.receives_free()),
         "staged" => staged(rt, alloc, endpoint, line),

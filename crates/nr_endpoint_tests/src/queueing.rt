@@ -90,7 +90,13 @@ fn read(rt: &impl Abort, endpoint: &mut TestEndpoint, line: &Line<'_>) -> Result
     endpoint.read_remote(rt, at, stag, line.number(rt, 2), line.number(rt, 3))
 }
 
-/// A line's answer. `send` and `send-invalidate STAG` queue a Send of the bytes; `invalidate STAG` lets a region die.
+/// `send-held`: queues the first Send that is held back.
+fn send_held(alloc: Global, endpoint: &mut TestEndpoint) -> String {
+    endpoint.send_held();
+    String::new(alloc)
+}
+
+/// A line's answer. `send` and `send-invalidate STAG` queue a Send of the bytes, which `hold` holds back; `invalidate STAG` lets a region die.
 pub fn queued(
     rt: &impl Abort,
     alloc: Global,
@@ -99,6 +105,8 @@ pub fn queued(
 ) -> String {
     match line.name {
         "send" => done(rt, alloc, &endpoint.send(rt, line.bytes)),
+        "hold" => done(rt, alloc, &endpoint.hold(rt, alloc, line.bytes)),
+        "send-held" => send_held(alloc, endpoint),
         "send-parts" => done(rt, alloc, &send_parts(rt, endpoint, line)),
         "send-invalidate" => {
             let queued = endpoint.send_invalidate(rt, line.bytes, line.word(rt, 0));

@@ -37,6 +37,8 @@ mod looking;
 #[cfg(test)]
 mod moving;
 #[cfg(test)]
+mod numbers;
+#[cfg(test)]
 mod plan_rows;
 #[cfg(test)]
 mod plans;

@@ -6,6 +6,7 @@ ghost use Rattle.nr_rpc.specs.Credential.{CanWriteCred};
 
 use crate::compare::same;
 use nr_link::End;
+use nr_link::constants::REASON_OLD;
 use nr_outside::MemSink;
 use nr_reduce::{Call, Form, Refused};
 use nr_requester::{Buffers, Requester, Take, Ticket};
@@ -384,6 +385,21 @@ impl TestLink {
         let (conveyed, sent) = self.answer(rt, alloc, reply);
         same(rt, row, conveyed.as_slice() == payload, true);
         sent
+    }
+
+    /// The number of the client, as the server end knows it.
+    pub fn client_number(&self) -> u64 {
+        self.server.client()
+    }
+
+    /// Ends the server end, whose next call counts as old. How it ends.
+    pub fn stop(&mut self, rt: &impl Abort) -> End
+        ensures { self.new ≡ self.old }
+    {
+        let Some(_call) = self.server.next_ready() else {
+            panic!(rt; "no call is ready");
+        };
+        self.server.stop(REASON_OLD)
     }
 
     /// Takes the answer to a call.

@@ -42,6 +42,7 @@ pub fn looked(rt: &impl Abort, alloc: Global, link: &TestLink, line: &Line<'_>, 
 /// The same of the numbers of a link.
 fn counted(rt: &impl Abort, alloc: Global, link: &TestLink, line: &Line<'_>, out: &mut String) {
     match line.name {
+        "client" => show(rt, alloc, out, &link.client_number()),
         "marks" => show(rt, alloc, out, &link.marks()),
         "releases" => show(rt, alloc, out, &link.releases()),
         "server-held" => show(rt, alloc, out, &server_held(link)),

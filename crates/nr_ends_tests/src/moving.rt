@@ -115,7 +115,7 @@ pub fn moved(
     }
 }
 
-/// The same. `client-writes` and `server-writes` end the test if an end has other bytes to write.
+/// The same. `client-writes` and `server-writes` end the test if an end has other bytes to write; `stop` ends the server end for a call that is old.
 fn written(rt: &impl Abort, alloc: Global, link: &mut TestLink, line: &Line<'_>, out: &mut String) {
     match line.name {
         "client-writes" => link.client_writes(rt, alloc, line.row, line.bytes),
@@ -124,6 +124,7 @@ fn written(rt: &impl Abort, alloc: Global, link: &mut TestLink, line: &Line<'_>,
         "server-fails" => server_fails(rt, alloc, link, line),
         "drain" => drain(rt, alloc, link, line),
         "set-credits" => link.set_credits(rt, line.number(rt, 0)),
+        "stop" => show(rt, alloc, out, &link.stop(rt)),
         _ => called(rt, alloc, link, line, out),
     }
 }

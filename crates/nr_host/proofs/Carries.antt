@@ -19,8 +19,7 @@ use Rattle.nr_plain.specs.History.{PassView}
 use Rattle.nr_host.specs.declared.connection_limits.ConnectionLimits.{ConnectionLimits}
 use Rattle.nr_host.specs.declared.conn_end.ConnEnd.{ConnEnd}
 use Rattle.nr_host.specs.declared.conn_end.ConnEnd.TheVariants as ends
-use Rattle.nr_host.specs.Connections.{Outside, Runs, SinkState, GivesAll, answers_of, refusals_of, IsOpenedWith}
-use Rattle.nr_host.specs.Turns.{answered_in, refused_in}
+use Rattle.nr_host.specs.Connections.{Outside, Runs, SinkState, GivesAll, handled_in, IsOpenedWith}
 use Rattle.nr_links.specs.Limits.{read_max}
 use Rattle.nr_host.specs.Ending.{AheadAt, FailedAt, HasRead, IsCause, MoreAt, ReadAt}
 use Rattle.nr_host.specs.Steps.{AllQuiet, CarriesTo, EndsIdle, FeedEnds, FeedsTo, IsLive, IsServed, outside, sink_state}
@@ -135,13 +134,9 @@ sent_none : (link : ℕ) → bytes_sent link Responder [] ≡ []
 unfolding bytes_sent
 sent_none link = refl
 
-answers_none : answered_in [] ≡ answers_of []
-unfolding answered_in answers_of
-answers_none = refl
-
-refusals_none : refused_in [] ≡ refusals_of []
-unfolding refused_in refusals_of
-refusals_none = refl
+none_handled : [] ≡ handled_in []
+unfolding handled_in
+none_handled = refl
 
 -- a connection at its first byte
 abbrev pub first_outside : (left given taken : Option (List ℕ)) (faults : ℕ) (gave : Option (List Moment)) (view : PassView) → Outside
@@ -161,8 +156,7 @@ module _ (left given taken : Option (List ℕ)) (faults : ℕ) (gave : Option (L
     writes = λ opened granted. tt;
     frames = λ opened granted. tt;
     turns = [];
-    answered = answers_none;
-    refused = refusals_none;
+    handled = none_handled;
     over = taken_none (number_heard [] link) view;
     greeted = λ some. absurd (some refl);
     gave = gives_none gave;

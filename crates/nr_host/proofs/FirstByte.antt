@@ -124,7 +124,7 @@ looked {S} left given source source' p p' new same kept told = (
 
 module _ (limits : ConnectionLimits) (left given left' given' taken : Option (List ℕ)) (faults : ℕ) (gave : Option (List Moment)) (view : PassView) (kept : Keeps left left') (told : Keeps given given') where
   lives : end_of (opened_side limits.credits limits.low (terms_with limits.units limits.invalidates)) ≡ None
-  lives = opened_lives (initial_link Responder limits.credits 1 (terms_with limits.units limits.invalidates)) limits.credits (terms_with limits.units limits.invalidates) refl
+  lives = opened_lives (initial_link Responder limits.credits 1 (terms_with limits.units limits.invalidates) None) limits.credits (terms_with limits.units limits.invalidates) refl
 
   now : Outside
   now = first_outside left' given' taken faults gave view
@@ -132,7 +132,7 @@ module _ (limits : ConnectionLimits) (left given left' given' taken : Option (Li
   begun : CarriesTo limits (first_outside left given taken faults gave view) (first_outside left' given' taken faults gave view) (opened_side limits.credits limits.low (terms_with limits.units limits.invalidates)) (0 + 0)
   begun =
       nothing_read limits (first_outside left given taken faults gave view) left given left' given' (sink_state taken faults false) gave view (opened_side limits.credits limits.low (terms_with limits.units limits.invalidates)) 0
-      (opened left given taken faults gave view limits (opened_side limits.credits limits.low (terms_with limits.units limits.invalidates)) refl lives (λ o link same. opened_stands_lem o link limits.credits limits.low (terms_with limits.units limits.invalidates) (initial_link Responder limits.credits 1 (terms_with limits.units limits.invalidates)) same refl))
+      (opened left given taken faults gave view limits (opened_side limits.credits limits.low (terms_with limits.units limits.invalidates)) refl lives (λ o link same. opened_stands_lem o link limits.credits limits.low (terms_with limits.units limits.invalidates) (initial_link Responder limits.credits 1 (terms_with limits.units limits.invalidates) None) same refl))
       (hands_none left given left' given' kept told)
 
   less : 0 + 0 < read_max
@@ -178,8 +178,7 @@ module _ (left given left' given' : Option (List ℕ)) (sink : SinkState) (gave 
       writes = e.runs.writes;
       frames = e.runs.frames;
       turns = e.runs.turns;
-      answered = e.runs.answered;
-      refused = e.runs.refused;
+      handled = e.runs.handled;
       over = e.runs.over;
       greeted = e.runs.greeted;
       gave = e.runs.gave;

@@ -18,13 +18,13 @@ use Rattle.nr_reduce.specs.Run.{output_due}
 use Rattle.nr_reduce.specs.Served.{IsExecuted, ServedMark, last_frame_at, next_call}
 use Rattle.nr_reduce.proofs.Standing.{AtEachMark_more, itself, one_more, received_one, sent_one}
 use Rattle.nr_plain.specs.History.{Answered, OnlyOthersAdded, PassView, xid_in}
-use Rattle.nr_host.specs.Connections.{Outside, Runs, SinkState, Takes, IsOwn, QuietMark, FrameMark, WriteMark, GivesAll, answer_of, answers_of, refusal_of, refusals_of, IsOpenedWith}
+use Rattle.nr_host.specs.Connections.{Outside, Runs, SinkState, Takes, IsOwn, QuietMark, FrameMark, WriteMark, GivesAll, handled_by, handled_in, IsOpenedWith}
 use Rattle.nr_host.specs.Steps.{AllQuiet, outside}
-use Rattle.nr_host.specs.Turns.{Taken, Turn, answered_at, answered_in, given_for, refused_at, refused_in}
+use Rattle.nr_host.specs.Turns.{Handled, Taken, Turn, given_for, handled_at}
 use Rattle.nr_host.specs.Turns.Turn.{Answers, Refuses}
 use Rattle.nr_host.proofs.Numbers.{frames_received, frames_same, number_fed, number_same, some_fed}
 use Rattle.nr_host.proofs.Sinks.{TakesMore}
-use Rattle.nr_host.proofs.Turning.{answered_one, given_one, refused_one, taken_answered, taken_by, taken_others, taken_refused, AnswersEach, FindsOld}
+use Rattle.nr_host.proofs.Turning.{given_one, handled_one, taken_answered, taken_by, taken_others, taken_refused, AnswersEach, FindsOld}
 use Rattle.nr_host.specs.declared.connection_limits.ConnectionLimits.{ConnectionLimits}
 
 -- ---- Lists of one mark more
@@ -37,40 +37,33 @@ gives_more before now (Some after) given moment all one =
     let (first, begun, all_is) = all' in
     (first, begun, is ∙ ap (λ (l : List Moment). l ++ moment ∷ []) all_is ∙ append_assoc first given (moment ∷ []))
 
-answers_one : (run : List Mark) (mark : Mark) → answers_of (run ++ mark ∷ []) ≡ answers_of run ++ answer_of mark
-unfolding answers_of
-answers_one run mark = one_more answer_of run mark
-
-refusals_one : (run : List Mark) (mark : Mark) → refusals_of (run ++ mark ∷ []) ≡ refusals_of run ++ refusal_of mark
-unfolding refusals_of
-refusals_one run mark = one_more refusal_of run mark
+pub handled_more : (run : List Mark) (mark : Mark) → handled_in (run ++ mark ∷ []) ≡ handled_in run ++ handled_by mark
+unfolding handled_in
+handled_more run mark = one_more handled_by run mark
 
 -- ---- The turns so far, with one mark more
 
 -- what a connection's marks say of its turns
 record HasTurns (link : ℕ) (before after : PassView) (run : List Mark) : Type 0 where
   turns : List Turn
-  answered : answered_in turns ≡ answers_of run
-  refused : refused_in turns ≡ refusals_of run
+  handled : map handled_at turns ≡ handled_in run
   over : Taken (number_heard run link) before turns after
   greeted : turns ≢ [] → frames_received link run ≢ []
 
 -- a mark at which no turn is taken and nothing is fed
-same_turns : (link : ℕ) (before after : PassView) (run : List Mark) (mark : Mark) → fed_at link Responder mark ≡ [] → answer_of mark ≡ [] → refusal_of mark ≡ [] → HasTurns link before after run → HasTurns link before after (run ++ mark ∷ [])
-same_turns link before after run mark fed none no_refusal h = record {
+same_turns : (link : ℕ) (before after : PassView) (run : List Mark) (mark : Mark) → fed_at link Responder mark ≡ [] → handled_by mark ≡ [] → HasTurns link before after run → HasTurns link before after (run ++ mark ∷ [])
+same_turns link before after run mark fed none h = record {
   turns = h.turns;
-  answered = h.answered ∙ sym (answers_one run mark ∙ ap (λ (calls : List Answered). answers_of run ++ calls) none ∙ append-nil (answers_of run));
-  refused = h.refused ∙ sym (refusals_one run mark ∙ ap (λ (xids : List ℕ). refusals_of run ++ xids) no_refusal ∙ append-nil (refusals_of run));
+  handled = h.handled ∙ sym (handled_more run mark ∙ ap (λ (calls : List Handled). handled_in run ++ calls) none ∙ append-nil (handled_in run));
   over = subst (λ (n : ℕ). Taken n before h.turns after) (sym (number_same link run mark fed)) h.over;
-  greeted = λ some none. h.greeted some (sym (frames_same link run mark fed) ∙ none);
+  greeted = λ some unfed. h.greeted some (sym (frames_same link run mark fed) ∙ unfed);
 }
 
 -- a piece
 fed_turns : (link : ℕ) (before after : PassView) (run : List Mark) (piece : List ℕ) → fed_at link Responder (marks.Fed link Responder piece) ≡ piece → HasTurns link before after run → HasTurns link before after (run ++ marks.Fed link Responder piece ∷ [])
 fed_turns link before after run piece fed h = record {
   turns = h.turns;
-  answered = h.answered ∙ sym (answers_one run mark ∙ append-nil (answers_of run));
-  refused = h.refused ∙ sym (refusals_one run mark ∙ append-nil (refusals_of run));
+  handled = h.handled ∙ sym (handled_more run mark ∙ append-nil (handled_in run));
   over = by h.turns h.over h.greeted;
   greeted = λ some. some_fed link run mark piece fed (h.greeted some);
 }
@@ -84,25 +77,24 @@ fed_turns link before after run piece fed h = record {
         subst (λ (n : ℕ). Taken n before (t ∷ turns) after) (sym (number_fed link run mark piece fed (greeted (λ none. absurd (let two : t ∷ turns ≡ [] = none in cc))))) over
 
 -- a turn that is taken at a mark
-turn_taken : (link : ℕ) (before now after : PassView) (run : List Mark) (mark : Mark) (t : Turn) → fed_at link Responder mark ≡ [] → answered_at t ≡ answer_of mark → refused_at t ≡ refusal_of mark → frames_received link run ≢ []
+turn_taken : (link : ℕ) (before now after : PassView) (run : List Mark) (mark : Mark) (t : Turn) → fed_at link Responder mark ≡ [] → handled_at t ∷ [] ≡ handled_by mark → frames_received link run ≢ []
     → (h : HasTurns link before now run) → Taken (number_heard run link) before (h.turns ++ t ∷ []) after → HasTurns link before after (run ++ mark ∷ [])
-turn_taken link before now after run mark t fed answers refuses some h over = record {
+turn_taken link before now after run mark t fed handles some h over = record {
   turns = h.turns ++ t ∷ [];
-  answered = answered_one h.turns t ∙ (λ i. h.answered i ++ answers i) ∙ sym (answers_one run mark);
-  refused = refused_one h.turns t ∙ (λ i. h.refused i ++ refuses i) ∙ sym (refusals_one run mark);
+  handled = handled_one h.turns t ∙ (λ i. h.handled i ++ handles i) ∙ sym (handled_more run mark);
   over = subst (λ (n : ℕ). Taken n before (h.turns ++ t ∷ []) after) (sym (number_same link run mark fed)) over;
   greeted = λ other none. some (sym (frames_same link run mark fed) ∙ none);
 }
 
 turns_of : (limits : ConnectionLimits) (read link : ℕ) (before after : Outside) (ahead : List ℕ) (more : List Moment) (run : List Mark) → Runs limits read link before after ahead more run → HasTurns link before.view after.view run
-turns_of limits read link before after ahead more run r = record { turns = r.turns; answered = r.answered; refused = r.refused; over = r.over; greeted = r.greeted }
+turns_of limits read link before after ahead more run r = record { turns = r.turns; handled = r.handled; over = r.over; greeted = r.greeted }
 
 -- ---- One mark more
 
 -- A turn is taken: a mark at which nothing is fed or written says so.
 took : (limits : ConnectionLimits) (read link : ℕ) (before : Outside) (left given : Option (List ℕ)) (sink : SinkState) (gave gave' : Option (List Moment)) (view view' : PassView)
     (ahead : List ℕ) (run : List Mark) (mark : Mark) (t : Turn) → IsOwn link mark → fed_at link Responder mark ≡ [] → written_at link Responder mark ≡ []
-    → answered_at t ≡ answer_of mark → refused_at t ≡ refusal_of mark → frames_received link run ≢ []
+    → handled_at t ∷ [] ≡ handled_by mark → frames_received link run ≢ []
     → (r : Runs limits read link before (outside left given sink gave view) ahead [] run)
     → ((opened : LinkParameters) → IsOpenedWith limits opened → ServedMark IsPrefixOf opened link run mark)
     → ((opened : LinkParameters) → QuietMark opened link run mark × (WriteMark opened link run mark × FrameMark opened link run mark))
@@ -110,8 +102,8 @@ took : (limits : ConnectionLimits) (read link : ℕ) (before : Outside) (left gi
     → Taken (number_heard run link) before.view (r.turns ++ t ∷ []) view'
     → Runs limits read link before (outside left given sink gave' view') ahead [] (run ++ mark ∷ [])
 unfolding turn_taken turns_of
-took limits read link before left given sink gave gave' view view' ahead run mark t own fed written answers refuses some r serves others gives over =
-    let turns = turn_taken link before.view view view' run mark t fed answers refuses some (turns_of limits read link before (outside left given sink gave view) ahead [] run r) over in
+took limits read link before left given sink gave gave' view view' ahead run mark t own fed written handles some r serves others gives over =
+    let turns = turn_taken link before.view view view' run mark t fed handles some (turns_of limits read link before (outside left given sink gave view) ahead [] run r) over in
     let received : bytes_received link Responder (run ++ mark ∷ []) ≡ bytes_received link Responder run =
     received_one link Responder run mark ∙ ap (λ (bytes : List ℕ). bytes_received link Responder run ++ bytes) fed ∙ append-nil (bytes_received link Responder run) in
     record {
@@ -124,8 +116,7 @@ took limits read link before left given sink gave gave' view view' ahead run mar
       writes = λ opened same. AtEachMark_more (WriteMark opened link) [] run mark (r.writes opened same) (others opened).1.0;
       frames = λ opened same. AtEachMark_more (FrameMark opened link) [] run mark (r.frames opened same) (others opened).1.1;
       turns = turns.turns;
-      answered = turns.answered;
-      refused = turns.refused;
+      handled = turns.handled;
       over = turns.over;
       greeted = turns.greeted;
       gave = subst (λ (ms : List Moment). GivesAll before.gave gave' ms)
@@ -146,7 +137,7 @@ pub executed : (limits : ConnectionLimits) (read link : ℕ) (before : Outside) 
     → Runs limits read link before (outside left given sink gave' view') ahead [] (run ++ marks.Execute link xid moment payload place reply ∷ [])
 executed limits read link before left given sink gave gave' view view' ahead run client xid place now moment payload reply r executes own some gives done =
     let a : Answered = record { moment = moment; payload = payload; place = place; reply = reply } in
-    took limits read link before left given sink gave gave' view view' ahead run (marks.Execute link xid moment payload place reply) (Answers now a) refl refl refl refl refl some r
+    took limits read link before left given sink gave gave' view view' ahead run (marks.Execute link xid moment payload place reply) (Answers now a) refl refl refl refl some r
     (λ opened same l. executes opened same) (λ opened. (tt, (tt, tt))) gives
     (subst (λ (n : ℕ). Taken n before.view (r.turns ++ Answers now a ∷ []) view') own
     (taken_answered before.view view view' client now moment payload reply place r.turns (subst (λ (n : ℕ). Taken n before.view r.turns view) (sym own) r.over) done))
@@ -165,7 +156,7 @@ refused limits read link before left given sink gave gave' view view' ahead run 
     let over : Taken (number_heard run link) before.view (r.turns ++ Refuses now xid ∷ []) view' =
     subst (λ (n : ℕ). Taken n before.view (r.turns ++ Refuses now xid ∷ []) view') own
     (taken_refused before.view view view' client now xid payload r.turns of (subst (λ (n : ℕ). Taken n before.view r.turns view) (sym own) r.over) old) in
-    took limits read link before left given sink gave gave' view view' ahead run (marks.Told link (Old xid (last_frame_at link run))) (Refuses now xid) refl refl refl refl refl some r
+    took limits read link before left given sink gave gave' view view' ahead run (marks.Told link (Old xid (last_frame_at link run))) (Refuses now xid) refl refl refl refl some r
     (λ opened same l.
     let x = executes opened same in
     record { call = x.call; is_next = x.is_next; own = x.own; numbered = λ none. numbered (own ∙ none); last = refl })
@@ -185,8 +176,7 @@ given_alone limits read link before left given sink gave gave' view view' ahead 
   writes = r.writes;
   frames = r.frames;
   turns = r.turns;
-  answered = r.answered;
-  refused = r.refused;
+  handled = r.handled;
   over = taken_others before.view view view' (number_heard run link) r.turns r.over added;
   greeted = r.greeted;
   gave = gives_more before.gave gave gave' (map given_for r.turns) moment (subst (λ (ms : List Moment). GivesAll before.gave gave ms) (append-nil (map given_for r.turns)) r.gave) gives;
@@ -216,8 +206,7 @@ fed limits read link before now piece ahead run r quiet frames =
       writes = λ opened same. AtEachMark_more (WriteMark opened link) [] run mark (r.writes opened same) tt;
       frames = λ opened same. AtEachMark_more (FrameMark opened link) [] run mark (r.frames opened same) (frames opened same);
       turns = turns.turns;
-      answered = turns.answered;
-      refused = turns.refused;
+      handled = turns.handled;
       over = turns.over;
       greeted = turns.greeted;
       gave = r.gave;
@@ -236,7 +225,7 @@ wrote limits read link before left given sink sink' gave view bytes ahead run r 
     let mark : Mark = marks.Wrote link Responder bytes in
     let sent : bytes_sent link Responder (run ++ mark ∷ []) ≡ bytes_sent link Responder run ++ bytes =
     sent_one link Responder run mark ∙ rw (itself link) refl in
-    let turns = same_turns link before.view view run mark refl refl refl (turns_of limits read link before (outside left given sink gave view) ahead [] run r) in
+    let turns = same_turns link before.view view run mark refl refl (turns_of limits read link before (outside left given sink gave view) ahead [] run r) in
     record {
       own = AtEachMark_more (λ earlier m. IsOwn link m) [] run mark r.own refl;
       handed = subst (λ (received : List ℕ). HandsOut before.left before.given left given (received ++ ahead))
@@ -247,8 +236,7 @@ wrote limits read link before left given sink sink' gave view bytes ahead run r 
       writes = λ opened same. AtEachMark_more (WriteMark opened link) [] run mark (r.writes opened same) (none opened same);
       frames = λ opened same. AtEachMark_more (FrameMark opened link) [] run mark (r.frames opened same) tt;
       turns = turns.turns;
-      answered = turns.answered;
-      refused = turns.refused;
+      handled = turns.handled;
       over = turns.over;
       greeted = turns.greeted;
       gave = r.gave;
@@ -270,8 +258,7 @@ read_more limits read link before left given left' given' sink gave view piece r
   writes = r.writes;
   frames = r.frames;
   turns = r.turns;
-  answered = r.answered;
-  refused = r.refused;
+  handled = r.handled;
   over = r.over;
   greeted = r.greeted;
   gave = r.gave;

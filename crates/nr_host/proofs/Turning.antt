@@ -1,10 +1,8 @@
 -- One turn more of a connection, over the one journal.
 use Rattle.std.proofs.Common.{◌≡◌, ℕ, suc, ◌+◌, ◌≤◌, arith, List, [], ◌∷◌, ◌++◌, length, take, drop, refl, sym, ap, subst, ◌∙◌, append_assoc, append-nil}
 use Rattle.std.proofs.lemmas.List.{drop-append-le, length-append, take-append-drop, take-append-le, take_all}
-use Rattle.std.proofs.lemmas.Grind.{flat_map-append}
 use Rattle.std.proofs.Math.Seq.{drop-append_seam, take-length}
 use Rattle.std.specs.Prelude.{map}
-use Rattle.std.specs.List.{flat_map}
 use Rattle.std.proofs.lemmas.List.{map-append}
 use Rattle.nr_outside.specs.declared.moment.Moment.{Moment}
 use Rattle.nr_reduce.specs.declared.mark.Entry.{Entry}
@@ -12,7 +10,7 @@ use Rattle.nr_reduce.specs.declared.mark.TaggedEntry.{TaggedEntry}
 use Rattle.nr_reduce.specs.NumberedJournal.{Standing, entries_alone, standing_for, IsExecutedBy, IsOld}
 use Rattle.nr_reduce.specs.NumberedJournal.Standing.{New}
 use Rattle.nr_turnstile.specs.Rule.{Begins, places_from}
-use Rattle.nr_plain.specs.History.{Answered, AreOfCalls, IsHistory, OnlyOthersAdded, Opening, Over, PassView, additions, history, setup_in, xid_in}
+use Rattle.nr_plain.specs.History.{Answered, AreOfCalls, HasNoCallTwice, IsHistory, OnlyOthersAdded, Opening, Over, PassView, additions, history, setup_in, xid_in}
 use Rattle.nr_plain.specs.Turns.{AnswersAt, FindsOldAt}
 use Rattle.nr_plain.specs.declared.history_entry.HistoryEntry.{HistoryEntry}
 use Rattle.nr_plain.specs.declared.history_entry.HistoryEntry.TheVariants.{Opened, Added}
@@ -20,7 +18,7 @@ use Rattle.nr_plain.specs.ReplyLaws.{plain_server}
 use Rattle.nr_plain.specs.Setup.{Setup}
 use Rattle.nr_plain.proofs.Histories.{begins_itself, begins_on}
 use Rattle.nr_plain.proofs.OfCalls.{both_of_calls}
-use Rattle.nr_host.specs.Turns.{AreTurns, IsAnsweredAt, Taken, TakenOver, Turn, added_at, answered_at, answered_in, given_for, refused_at, refused_in}
+use Rattle.nr_host.specs.Turns.{AreTurns, IsAnsweredAt, Taken, TakenOver, Turn, added_at, given_for, handled_at}
 use Rattle.nr_host.specs.Turns.Turn.{Answers, Refuses}
 
 -- ---- A journal that grows
@@ -182,6 +180,7 @@ taken_none client view first T is = record {
   more = [];
   begins = begins_itself view.seen;
   seen = is ∙ ap (λ (U : List TaggedEntry). history first U) (sym (append-nil T));
+  once = λ none. none;
   of_calls = tt;
   mine = [];
   turned = (let same = ap length (append-nil T) in omega (arith, same), refl);
@@ -220,6 +219,7 @@ record OthersTagged (first : Opening) (T : List TaggedEntry) (before after : Pas
   others : List TaggedEntry
   begins : Begins before.seen after.seen
   seen : after.seen ≡ history first (T ++ others)
+  once : HasNoCallTwice after.seen
   of_calls : AreOfCalls (setup_in first) (entries_alone T) (entries_alone others)
   mine_is : after.mine ≡ before.mine
 
@@ -238,13 +238,14 @@ tagged_others before after added first T is =
       others = split.0;
       begins = f.begins;
       seen = f.seen.is ∙ ap (λ (U : List TaggedEntry). history first U) split.1;
+      once = f.once;
       of_calls = subst (λ (es : List Entry). AreOfCalls (setup_in first) (entries_alone T) es) (sym same) f.of_calls;
       mine_is = f.mine_is;
     }
 
 -- what is said of no turns is said for each client
 pub taken_by : (client other : ℕ) (before after : PassView) → Taken client before [] after → Taken other before [] after
-taken_by client other before after taken first T is = (let o = taken first T is in record { more = o.more; begins = o.begins; seen = o.seen; of_calls = o.of_calls; mine = o.mine; turned = o.turned; mine_is = o.mine_is })
+taken_by client other before after taken first T is = (let o = taken first T is in record { more = o.more; begins = o.begins; seen = o.seen; once = o.once; of_calls = o.of_calls; mine = o.mine; turned = o.turned; mine_is = o.mine_is })
 
 -- a call was answered, or found old, whatever history the pass had seen
 abbrev pub AnswersEach : (before after : PassView) (client : ℕ) (given moment : Moment) (payload reply : List ℕ) (place : ℕ) → Type 0
@@ -264,6 +265,7 @@ module _ (before now after : PassView) (client : ℕ) where
         more = o.more ++ f.others;
         begins = begins_on before.seen now.seen after.seen o.begins f.begins;
         seen = f.seen ∙ ap (λ (U : List TaggedEntry). history first U) all;
+        once = λ none. f.once;
         of_calls = joined_calls (setup_in first) T o.more f.others o.of_calls f.of_calls;
         mine = o.mine;
         turned = subst (λ (U : List TaggedEntry). AreTurns (setup_in first) client U (length T) turns o.mine) all (turns_grow (setup_in first) client (T ++ o.more) f.others (length T) turns o.mine o.turned);
@@ -284,6 +286,7 @@ module _ (before now after : PassView) (client : ℕ) where
         more = o.more ++ (x.others ++ added);
         begins = begins_on before.seen (history first U) after.seen (begins_on before.seen now.seen (history first U) o.begins x.begins) (additions added, x.seen ∙ history_more first U added);
         seen = x.seen ∙ ap (λ (V : List TaggedEntry). history first V) all;
+        once = λ none. x.once;
         of_calls = joined_calls (setup_in first) T o.more (x.others ++ added) o.of_calls x.of_calls;
         mine = o.mine ++ places_from (suc (length U)) (length added);
         turned = subst (λ (V : List TaggedEntry). AreTurns (setup_in first) client V (length T) (turns ++ Answers given a ∷ []) (o.mine ++ places_from (suc (length U)) (length added))) all
@@ -302,6 +305,7 @@ module _ (before now after : PassView) (client : ℕ) where
         more = o.more ++ x.others;
         begins = begins_on before.seen now.seen after.seen o.begins x.begins;
         seen = x.seen ∙ ap (λ (V : List TaggedEntry). history first V) all;
+        once = λ none. x.once;
         of_calls = joined_calls (setup_in first) T o.more x.others o.of_calls x.of_calls;
         mine = o.mine;
         turned = subst (λ (V : List TaggedEntry). AreTurns (setup_in first) client V (length T) (turns ++ Refuses given xid ∷ []) o.mine) all
@@ -335,13 +339,8 @@ grown_by_turns before after client turns taken first J i =
 
 -- ---- What the turns say, of one more
 
-pub answered_one : (turns : List Turn) (t : Turn) → answered_in (turns ++ t ∷ []) ≡ answered_in turns ++ answered_at t
-unfolding answered_in
-answered_one turns t = flat_map-append answered_at turns (t ∷ []) ∙ ap (λ (l : List Answered). flat_map answered_at turns ++ l) (append-nil (answered_at t))
-
-pub refused_one : (turns : List Turn) (t : Turn) → refused_in (turns ++ t ∷ []) ≡ refused_in turns ++ refused_at t
-unfolding refused_in
-refused_one turns t = flat_map-append refused_at turns (t ∷ []) ∙ ap (λ (l : List ℕ). flat_map refused_at turns ++ l) (append-nil (refused_at t))
+pub handled_one : (turns : List Turn) (t : Turn) → map handled_at (turns ++ t ∷ []) ≡ map handled_at turns ++ handled_at t ∷ []
+handled_one turns t = map-append handled_at turns (t ∷ [])
 
 pub given_one : (turns : List Turn) (t : Turn) → map given_for (turns ++ t ∷ []) ≡ map given_for turns ++ given_for t ∷ []
 given_one turns t = map-append given_for turns (t ∷ [])

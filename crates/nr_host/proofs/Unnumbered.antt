@@ -6,6 +6,8 @@ use Rattle.std.specs.List.{flat_map}
 use Rattle.nr_outside.specs.declared.moment.Moment.{Moment}
 use Rattle.nr_reduce.specs.declared.mark.Entry.{Entry}
 use Rattle.nr_reduce.specs.declared.mark.Mark.{Mark}
+use Rattle.nr_reduce.specs.declared.mark.Mark.TheVariants as marks
+use Rattle.nr_reduce.specs.declared.mark.Told.TheVariants.{Granted, Old}
 use Rattle.nr_reduce.specs.declared.mark.TaggedEntry.{TaggedEntry}
 use Rattle.nr_reduce.specs.NumberedJournal.{entries_alone, number_heard, tagged}
 use Rattle.nr_turnstile.specs.Rule.{places_from}
@@ -15,8 +17,9 @@ use Rattle.nr_plain.specs.Journal.{state_of}
 use Rattle.nr_plain.specs.Replies.{Answer, plain_answer, plain_reply}
 use Rattle.nr_plain.specs.Setup.{Setup}
 use Rattle.nr_plain.proofs.Histories.{tagged_alone}
-use Rattle.nr_host.specs.Connections.{Outside, Runs, answers_of}
-use Rattle.nr_host.specs.Turns.{AreTurns, IsAnsweredAt, Taken, Turn, added_at, answered_at, answered_in, given_for}
+use Rattle.nr_host.specs.Connections.{Outside, Runs, answer_of, answers_of, handled_by, handled_in, refusal_of, refusals_of}
+use Rattle.nr_host.specs.Turns.{AreTurns, Handled, IsAnsweredAt, Taken, Turn, added_at, answered_at, answered_in, given_for, handled_at}
+use Rattle.nr_host.specs.Turns.Handled.{AnsweredCall, RefusedCall}
 use Rattle.nr_host.specs.Turns.Turn.{Answers, Refuses}
 use Rattle.nr_host.specs.declared.connection_limits.ConnectionLimits.{ConnectionLimits}
 use Rattle.nr_host.proofs.Turning.{alone_more, turns_within}
@@ -96,6 +99,64 @@ turns_placed s T n (Answers given a ∷ turns) mine (k, (from, (is, (later, (min
     }
 turns_placed s T n (Refuses given xid ∷ turns) mine (k, (from, (old, rest))) = absurd old
 
+-- ---- The calls that were answered, by those that were handled
+
+abbrev answer_in : Handled → List Answered
+answer_in (AnsweredCall a) = a ∷ []
+answer_in (RefusedCall xid) = []
+
+of_turns : (turns : List Turn) → flat_map answer_in (map handled_at turns) ≡ flat_map answered_at turns
+of_turns [] = refl
+of_turns (Answers given a ∷ turns) = ap (λ (calls : List Answered). a ∷ calls) (of_turns turns)
+of_turns (Refuses given xid ∷ turns) = of_turns turns
+
+of_marks : (run : List Mark) → flat_map answer_in (flat_map handled_by run) ≡ flat_map answer_of run
+of_marks [] = refl
+of_marks (marks.Submit l call form answer ∷ run) = of_marks run
+of_marks (marks.Wrote l side bytes ∷ run) = of_marks run
+of_marks (marks.Fed l side bytes ∷ run) = of_marks run
+of_marks (marks.Execute l xid moment payload place reply ∷ run) =
+    ap (λ (calls : List Answered). record { moment = moment; payload = payload; place = place; reply = reply } ∷ calls) (of_marks run)
+of_marks (marks.Done l xid outcome ∷ run) = of_marks run
+of_marks (marks.Lost l xid ∷ run) = of_marks run
+of_marks (marks.Forget l xid ∷ run) = of_marks run
+of_marks (marks.Revoke l xid bytes ∷ run) = of_marks run
+of_marks (marks.Drop l ∷ run) = of_marks run
+of_marks (marks.Told l (Granted credits) ∷ run) = of_marks run
+of_marks (marks.Told l (Old xid at) ∷ run) = of_marks run
+
+abbrev refusal_in : Handled → List ℕ
+refusal_in (AnsweredCall a) = []
+refusal_in (RefusedCall xid) = xid ∷ []
+
+refused_marks : (run : List Mark) → flat_map refusal_in (flat_map handled_by run) ≡ flat_map refusal_of run
+refused_marks [] = refl
+refused_marks (marks.Submit l call form answer ∷ run) = refused_marks run
+refused_marks (marks.Wrote l side bytes ∷ run) = refused_marks run
+refused_marks (marks.Fed l side bytes ∷ run) = refused_marks run
+refused_marks (marks.Execute l xid moment payload place reply ∷ run) = refused_marks run
+refused_marks (marks.Done l xid outcome ∷ run) = refused_marks run
+refused_marks (marks.Lost l xid ∷ run) = refused_marks run
+refused_marks (marks.Forget l xid ∷ run) = refused_marks run
+refused_marks (marks.Revoke l xid bytes ∷ run) = refused_marks run
+refused_marks (marks.Drop l ∷ run) = refused_marks run
+refused_marks (marks.Told l (Granted credits) ∷ run) = refused_marks run
+refused_marks (marks.Told l (Old xid at) ∷ run) = ap (λ (xids : List ℕ). xid ∷ xids) (refused_marks run)
+
+-- no call of a client without a number is refused as old
+refuses_none : (s : Setup) (T : List TaggedEntry) (n : ℕ) (turns : List Turn) (mine : List ℕ) → AreTurns s 0 T n turns mine → flat_map refusal_in (map handled_at turns) ≡ []
+refuses_none s T n [] mine h = refl
+refuses_none s T n (Answers given a ∷ turns) mine (k, (from, (is, (later, (mine_is, rest))))) = refuses_none s T (k + length (added_at 0 (take k T) given a)) turns later rest
+refuses_none s T n (Refuses given xid ∷ turns) mine (k, (from, (old, rest))) = absurd old
+
+pub none_refused : (s : Setup) (T : List TaggedEntry) (n : ℕ) (turns : List Turn) (mine : List ℕ) (run : List Mark) → AreTurns s 0 T n turns mine → map handled_at turns ≡ handled_in run → refusals_of run ≡ []
+unfolding refusals_of handled_in
+none_refused s T n turns mine run h handled = sym (refused_marks run) ∙ sym (ap (flat_map refusal_in) handled) ∙ refuses_none s T n turns mine h
+
+pub answers_handled : (turns : List Turn) (run : List Mark) → map handled_at turns ≡ handled_in run → answered_in turns ≡ answers_of run
+unfolding answered_in answers_of handled_in
+answers_handled turns run handled = sym (of_turns turns) ∙ ap (flat_map answer_in) handled ∙ of_marks run
+
 -- ---- So it is with a pass, and with the marks of a connection
 
 pub taken_unnumbered : (before after : PassView) (turns : List Turn) → Taken 0 before turns after → Over before (answered_in turns) after
@@ -109,6 +170,7 @@ taken_unnumbered before after turns taken first J i =
       more = entries_alone o.more;
       begins = o.begins;
       seen = record { entries = i.entries ++ o.more; is = o.seen; journal = all };
+      once = o.once;
       of_calls = subst (λ (l : List Entry). AreOfCalls (setup_in first) l (entries_alone o.more)) i.journal o.of_calls;
       placed = subst (λ (l : List Entry). AllPlaced (setup_in first) l (length J) (answered_in turns)) all (subst (λ (n : ℕ). AllPlaced (setup_in first) (entries_alone (i.entries ++ o.more)) n (answered_in turns)) len p.placed);
       mine_is = o.mine_is ∙ ap (λ (l : List ℕ). before.mine ++ l) p.own;
@@ -118,5 +180,5 @@ taken_unnumbered before after turns taken first J i =
 pub over_of_marks : (limits : ConnectionLimits) (read link : ℕ) (before after : Outside) (ahead : List ℕ) (more : List Moment) (run : List Mark) → Runs limits read link before after ahead more run → number_heard run link ≡ 0
     → Over before.view (answers_of run) after.view
 over_of_marks limits read link before after ahead more run r none =
-    subst (λ (calls : List Answered). Over before.view calls after.view) r.answered
+    subst (λ (calls : List Answered). Over before.view calls after.view) (answers_handled r.turns run r.handled)
     (taken_unnumbered before.view after.view r.turns (subst (λ (n : ℕ). Taken n before.view r.turns after.view) none r.over))

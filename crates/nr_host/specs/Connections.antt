@@ -21,20 +21,13 @@ use Rattle.nr_reduce.specs.Run.{HasWritten, server}
 use Rattle.nr_reduce.specs.Served.{ServedSoFar, next_call}
 use Rattle.nr_reduce.specs.NumberedJournal.{number_heard}
 use Rattle.nr_plain.specs.History.{Answered, PassView}
-use Rattle.nr_host.specs.Turns.{Taken, Turn, answered_in, given_for, refused_in}
+use Rattle.nr_host.specs.Turns.{Handled, Taken, Turn, given_for, handled_at}
+use Rattle.nr_host.specs.Turns.Handled.{AnsweredCall, RefusedCall}
 use Rattle.nr_host.specs.declared.connection_limits.ConnectionLimits.{ConnectionLimits}
 
 -- a link's server was opened with these limits
 abbrev pub IsOpenedWith : ConnectionLimits → LinkParameters → Type 0
 IsOpenedWith limits opened = ServerOpened opened limits.credits limits.low (terms_with limits.units limits.invalidates)
-
--- the moments at which calls were executed, in order
-abbrev pub moment_of : Mark → List Moment
-moment_of (marks.Execute l xid moment payload place reply) = moment ∷ []
-moment_of mark = []
-
-unfoldable pub moments : List Mark → List Moment
-moments run = flat_map moment_of run
 
 -- a mark of the server's side of this link
 abbrev pub IsOwn : ℕ → Mark → Type 0
@@ -52,7 +45,16 @@ answer_of mark = []
 unfoldable pub answers_of : List Mark → List Answered
 answers_of run = flat_map answer_of run
 
--- the xids of the calls that were refused since they are old, in order
+-- what was made of the calls whose turn came, in order: they were answered, or refused since they are old
+abbrev pub handled_by : Mark → List Handled
+handled_by (marks.Execute l xid moment payload place reply) = AnsweredCall (record { moment = moment; payload = payload; place = place; reply = reply }) ∷ []
+handled_by (marks.Told l (Old xid at)) = RefusedCall xid ∷ []
+handled_by mark = []
+
+unfoldable pub handled_in : List Mark → List Handled
+handled_in run = flat_map handled_by run
+
+-- the xids of those that were refused, in order
 abbrev pub refusal_of : Mark → List ℕ
 refusal_of (marks.Told l (Old xid at)) = xid ∷ []
 refusal_of mark = []
@@ -129,8 +131,7 @@ pub record Runs (limits : ConnectionLimits) (read link : ℕ) (before after : Ou
   pub writes : (opened : LinkParameters) → IsOpenedWith limits opened → AtEachMark (WriteMark opened link) [] run
   pub frames : (opened : LinkParameters) → IsOpenedWith limits opened → AtEachMark (FrameMark opened link) [] run
   pub turns : List Turn
-  pub answered : answered_in turns ≡ answers_of run
-  pub refused : refused_in turns ≡ refusals_of run
+  pub handled : map handled_at turns ≡ handled_in run
   pub over : Taken (number_heard run link) before.view turns after.view
   pub greeted : turns ≢ [] → frames_of Initiator (bytes_received link Responder run) ≢ []
   pub gave : GivesAll before.gave after.gave (map given_for turns ++ more)

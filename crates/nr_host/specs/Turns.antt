@@ -6,7 +6,7 @@ use Rattle.nr_reduce.specs.NumberedJournal.{entries_alone, standing_for, IsExecu
 use Rattle.nr_reduce.specs.NumberedJournal.Standing.{New}
 use Rattle.nr_reduce.specs.declared.mark.TaggedEntry.{TaggedEntry}
 use Rattle.nr_turnstile.specs.Rule.{Begins, places_from}
-use Rattle.nr_plain.specs.History.{Answered, AreOfCalls, Opening, PassView, history, setup_in, xid_in}
+use Rattle.nr_plain.specs.History.{Answered, AreOfCalls, HasNoCallTwice, Opening, PassView, history, setup_in, xid_in}
 use Rattle.nr_plain.specs.ReplyLaws.{plain_server}
 use Rattle.nr_plain.specs.Setup.{Setup}
 use Rattle.nr_plain.specs.Turns.{added_to}
@@ -20,20 +20,22 @@ abbrev pub given_for : Turn → Moment
 given_for (Answers given a) = given
 given_for (Refuses given xid) = given
 
--- the calls that were answered, in order, and the xids of those that were refused
+-- what was made of a call at its turn: it was answered, or refused under its xid
+pub data Handled : Type 0 where
+  AnsweredCall : Answered → Handled
+  RefusedCall : (xid : ℕ) → Handled
+
+abbrev pub handled_at : Turn → Handled
+handled_at (Answers given a) = AnsweredCall a
+handled_at (Refuses given xid) = RefusedCall xid
+
+-- the calls that were answered, in order
 abbrev pub answered_at : Turn → List Answered
 answered_at (Answers given a) = a ∷ []
 answered_at (Refuses given xid) = []
 
-abbrev pub refused_at : Turn → List ℕ
-refused_at (Answers given a) = []
-refused_at (Refuses given xid) = xid ∷ []
-
 unfoldable pub answered_in : List Turn → List Answered
 answered_in turns = flat_map answered_at turns
-
-unfoldable pub refused_in : List Turn → List ℕ
-refused_in turns = flat_map refused_at turns
 
 -- ---- A turn after the first entries of the journal
 
@@ -61,11 +63,13 @@ AreTurns s client T n (Refuses given xid ∷ turns) mine =
     (k : ℕ) × ((n ≤ k) × (IsOld (standing_for (take k T) client xid) × AreTurns s client T k turns mine))
 
 -- A pass had seen a server that was opened so and has the journal T, and has now seen more. These turns of a client were taken in between, and
--- what they added is the pass's own. All else that was added is of others. Each entry that was added is that of a call.
+-- what they added is the pass's own. All else that was added is of others. Each entry that was added is that of a call, and no call of a client with
+-- a number has two, whoever sent it, if none had two before.
 pub record TakenOver (first : Opening) (T : List TaggedEntry) (client : ℕ) (before : PassView) (turns : List Turn) (after : PassView) : Type 0 where
   pub more : List TaggedEntry
   pub begins : Begins before.seen after.seen
   pub seen : after.seen ≡ history first (T ++ more)
+  pub once : HasNoCallTwice before.seen → HasNoCallTwice after.seen
   pub of_calls : AreOfCalls (setup_in first) (entries_alone T) (entries_alone more)
   pub mine : List ℕ
   pub turned : AreTurns (setup_in first) client (T ++ more) (length T) turns mine

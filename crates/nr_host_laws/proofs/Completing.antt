@@ -1,32 +1,38 @@
 -- How a connection ends whose client sends a complete stream.
-use Rattle.std.proofs.Common.{◌≡◌, ℕ, ◌<◌, ◌⊎◌, inl, inr, Bool, false, List, [], ◌∷◌, ◌++◌, length, Option, Some, None, refl, arith, subst, sym, ap, ◌∙◌, append_assoc, append-nil}
+use Rattle.std.proofs.Common.{◌≡◌, ◌≢◌, ℕ, ◌<◌, ◌⊎◌, inl, inr, Bool, false, List, [], ◌∷◌, ◌++◌, length, Option, Some, None, refl, arith, subst, sym, ap, ◌∙◌, append_assoc, append-nil}
 use Rattle.std.specs.Prelude.{map}
 use Rattle.std.proofs.lemmas.List.{length-append}
-use Rattle.std.proofs.lemmas.Option.{none-some}
+use Rattle.std.proofs.lemmas.Option.{none-some, same_Some}
 use Rattle.std.specs.Io.KnownBytes.{Appends, Consumes, IsAtEnd}
 use Rattle.nr_outside.specs.Faults.{Rises}
 use Rattle.nr_outside.specs.declared.moment.Moment.{Moment}
 use Rattle.nr_wire.specs.declared.hello.Side.TheVariants.{Initiator, Responder}
 use Rattle.nr_link.specs.Input.{input_of}
+use Rattle.nr_link.specs.Reasons.{REASON_OLD}
+use Rattle.nr_link.specs.declared.end.End.{End}
+use Rattle.nr_link.specs.declared.end.End.TheVariants as link_ends
 use Rattle.nr_reduce.specs.declared.mark.Mark.{Mark}
 use Rattle.nr_reduce.specs.declared.mark.Entry.{Entry}
 use Rattle.nr_reduce.specs.declared.mark.LinkParameters.{LinkParameters}
 use Rattle.nr_reduce.specs.History.{bytes_received, bytes_sent}
 use Rattle.nr_reduce.specs.Matched.{IsPrefixOf}
+use Rattle.nr_reduce.specs.NumberedJournal.{number_heard}
 use Rattle.nr_reduce.specs.Run.{server}
 use Rattle.nr_reduce.specs.ServerState.{PendingCall}
 use Rattle.nr_host_laws.proofs.Lawful.{keep_the_law, with_limits}
 use Rattle.nr_reduce.specs.Served.{Served}
 use Rattle.nr_plain.specs.History.{IsHistory, Opening, setup_in}
 use Rattle.nr_links.specs.Limits.{read_max}
-use Rattle.nr_host.specs.Connections.{Outside, Runs, TakesUntil, GivesAll, IsOpenedWith}
-use Rattle.nr_host.specs.Turns.{given_for}
+use Rattle.nr_host.specs.Connections.{Outside, Runs, TakesUntil, GivesAll, IsOpenedWith, refusals_of}
+use Rattle.nr_host.specs.Turns.{AreTurns, given_for}
+use Rattle.nr_host.proofs.Unnumbered.{none_refused}
 use Rattle.nr_host.specs.Ending.{Ended, IsCause, IsIdle, SinkCount, SourceCount, begun_bytes, open_calls}
 use Rattle.nr_host.specs.Steps.{IsServed, sink_state, with_failed}
 use Rattle.nr_host.specs.declared.connection_limits.ConnectionLimits.{ConnectionLimits}
 use Rattle.nr_host.specs.declared.conn_end.ConnEnd.{ConnEnd}
 use Rattle.nr_host.specs.declared.conn_end.ConnEnd.TheVariants as ends
-use Rattle.nr_host_laws.specs.Laws.{Completes, ConnectionsComplete}
+use Rattle.nr_host_laws.specs.Laws.{Completes, ConnectionsComplete, EndsForOldCall}
+use Rattle.nr_host_laws.proofs.OldEnds.{ends_for_old}
 use Rattle.nr_host_laws.specs.Streams.{MayHaveMade, IsCompleteStream, ServesStream}
 
 -- ---- What is read of a stream that is known
@@ -59,6 +65,10 @@ no_calls_below (x ∷ xs) none more = absurd cc
 not_memory : ends.Closed ≡ ends.Memory → ⊥
 not_memory e = absurd cc
 
+-- the ends of a connection over such a stream
+abbrev IsLeftOf : ConnEnd → Type 0
+IsLeftOf end = (end ≡ ends.Memory) ⊎ ((end ≡ ends.Closed) ⊎ ((why : End) × (end ≡ ends.Protocol why)))
+
 -- ---- One connection
 
 module _ (limits : ConnectionLimits) (before after : Outside) (first : Opening) (J : List Entry) (stream : List ℕ) (stands : IsHistory first J before.view.seen) (known : before.left ≡ Some stream)
@@ -81,8 +91,7 @@ module _ (limits : ConnectionLimits) (before after : Outside) (first : Opening) 
     journal = stands.journal;
     more = (r.over first stands.entries stands.is).more;
     turns = r.turns;
-    answers = r.answered;
-    refusals = r.refused;
+    handled = r.handled;
     mine = (r.over first stands.entries stands.is).mine;
     turned = (r.over first stands.entries stands.is).turned;
   }
@@ -104,8 +113,7 @@ module _ (limits : ConnectionLimits) (before after : Outside) (first : Opening) 
             (ap (λ (l : List ℕ). bytes_received link Responder run ++ l) none ∙ append-nil (bytes_received link Responder run) ∙ all.0) r.handed.to_given;
         taken = (subst (λ (f : Bool). TakesUntil f before.sink (sink_state after.sink.taken after.sink.faults f) (bytes_sent link Responder run)) fine r.taken).1;
         turns = r.turns;
-        answers = r.answered;
-        refusals = r.refused;
+        handled = r.handled;
         gave = subst (λ (l : List Moment). GivesAll before.gave after.gave l)
             (ap (λ (l : List Moment). map given_for r.turns ++ l) no_more ∙ append-nil (map given_for r.turns)) r.gave;
         entries = stands.entries;
@@ -114,20 +122,50 @@ module _ (limits : ConnectionLimits) (before after : Outside) (first : Opening) 
         made = made_by read link failed ahead more run r;
         served = served;
         idle = λ opened same. (idle opened same).0;
-        answered = λ opened same. complete.answered opened link run same (made_by read link failed ahead more run r opened same) all.0 (idle opened same).0.quiet;
+        answered = λ opened same. complete.answered opened link run same (made_by read link failed ahead more run r opened same) all.0 (idle opened same).0;
       }
+
+  -- a connection whose side ended has refused a call
+  refused_at : (why : End) (link read : ℕ) (failed : Bool) → Ended limits read link before (with_failed failed after) (ends.Protocol why) → EndsForOldCall limits link before after (ends.Protocol why)
+  refused_at why link read failed e = by (refusals_of e.run) refl
+    where
+      opened : LinkParameters
+      opened = with_limits limits
+
+      ended : (server opened link e.run).ended ≡ Some why
+      ended = (e.cause opened (refl, refl, refl, refl)).0
+
+      none_of_zero : number_heard e.run link ≡ 0 → refusals_of e.run ≡ []
+      none_of_zero zero =
+          let over = e.runs.over first stands.entries stands.is in
+          none_refused (setup_in first) (stands.entries ++ over.more) (length stands.entries) e.runs.turns over.mine e.run
+          (subst (λ (n : ℕ). AreTurns (setup_in first) n (stands.entries ++ over.more) (length stands.entries) e.runs.turns over.mine) zero over.turned) e.runs.handled
+
+      by : (xids : List ℕ) → refusals_of e.run ≡ xids → EndsForOldCall limits link before after (ends.Protocol why)
+      by [] none =
+          absurd (none-some why (sym (complete.stays opened link e.run (refl, refl, refl, refl) (made_by read link failed e.ahead e.more e.run e.runs opened (refl, refl, refl, refl)) none) ∙ ended))
+      by (xid ∷ xids) some =
+          let old = ends_for_old opened link e.run e.runs.own (e.runs.served opened (refl, refl, refl, refl)) xid xids some in
+          let refused : refusals_of e.run ≢ [] = λ none. absurd (let wrong : xid ∷ xids ≡ [] = sym some ∙ none in cc) in
+          record {
+            at = old.0;
+            end_is = ap (λ (x : End). ends.Protocol x) (same_Some why (link_ends.Bad old.0 REASON_OLD) (sym ended ∙ old.1));
+            read = read;
+            failed = failed;
+            ended = e;
+            numbered = λ zero. refused (none_of_zero zero);
+            refused = refused;
+          }
 
   -- the ends that are left
   by_end : (end : ConnEnd) (source source' : ℕ) → SourceCount end source source' → SinkCount end before.sink.faults after.sink.faults
       → (Rises source source' → ⊥) → (Rises before.sink.faults after.sink.faults → ⊥)
-      → (read : ℕ) (failed : Bool) → Ended limits read 0 before (with_failed failed after) end → (end ≡ ends.Memory) ⊎ (end ≡ ends.Closed)
+      → (read : ℕ) (failed : Bool) → Ended limits read 0 before (with_failed failed after) end → IsLeftOf end
   by_end ends.Memory source source' sc kc quiet fine read failed e = inl refl
-  by_end ends.Closed source source' sc kc quiet fine read failed e = inr refl
+  by_end ends.Closed source source' sc kc quiet fine read failed e = inr (inl refl)
   by_end ends.LinkRead source source' sc kc quiet fine read failed e = absurd (quiet sc)
   by_end ends.LinkWrite source source' sc kc quiet fine read failed e = absurd (fine kc)
-  by_end (ends.Protocol why) source source' sc kc quiet fine read failed e =
-      let opened : LinkParameters = with_limits limits in
-      absurd (none-some why (sym (complete.stays opened 0 e.run (refl, refl, refl, refl) (made_by read 0 failed e.ahead e.more e.run e.runs opened (refl, refl, refl, refl))) ∙ (e.cause opened (refl, refl, refl, refl)).0))
+  by_end (ends.Protocol why) source source' sc kc quiet fine read failed e = inr (inr (why, refl))
   by_end (ends.Budget most) source source' sc kc quiet fine read failed e =
       let opened : LinkParameters = with_limits limits in
       absurd (no_longer (bytes_received 0 Responder e.run) stream (made_by read 0 failed e.ahead e.more e.run e.runs opened (refl, refl, refl, refl)).begins complete.within (e.cause opened (refl, refl, refl, refl)).1.1)
@@ -137,7 +175,7 @@ module _ (limits : ConnectionLimits) (before after : Outside) (first : Opening) 
       let all : (bytes_received 0 Responder e.run ≡ stream) × (after.left ≡ Some []) =
       read_all after.left stream (bytes_received 0 Responder e.run) e.ahead (consumed read 0 failed e.ahead e.more e.run e.runs) e.ahead_is why.1.0 in
       absurd (by (ap (λ (l : List ℕ). (input_of Initiator l).rest) all.0 ∙ complete.frames)
-      (complete.answered opened 0 e.run (refl, refl, refl, refl) (made_by read 0 failed e.ahead e.more e.run e.runs opened (refl, refl, refl, refl)) all.0 why.0.quiet) why.1.1.1.1)
+      (complete.answered opened 0 e.run (refl, refl, refl, refl) (made_by read 0 failed e.ahead e.more e.run e.runs opened (refl, refl, refl, refl)) all.0 why.0) why.1.1.1.1)
     where
       by : (input_of Initiator (bytes_received 0 Responder e.run)).rest ≡ [] → (server (with_limits limits) 0 e.run).state.calls ≡ []
           → (0 < begun_bytes 0 e.run) ⊎ (0 < open_calls (with_limits limits) 0 e.run) → ⊥
@@ -149,9 +187,15 @@ module _ (limits : ConnectionLimits) (before after : Outside) (first : Opening) 
       let (read, (failed, (e, lawful))) = keep_the_law limits before after ends.Closed not_memory (subst (λ (c : ConnEnd). IsServed limits before after c) is served) link in
       closed read link failed e.ahead e.more e.run e.runs e.ahead_is e.more_is e.failed_is (λ opened same. ((e.cause opened same).0, (e.cause opened same).1.0)) lawful
 
-  completes_by : (end : ConnEnd) → IsServed limits before after end → (end ≡ ends.Memory) ⊎ (end ≡ ends.Closed) → Completes limits first J before after stream end
+  refused_by : (end : ConnEnd) (why : End) → end ≡ ends.Protocol why → IsServed limits before after end → (link : ℕ) → EndsForOldCall limits link before after end
+  refused_by end why is served link =
+      let (read, (failed, e)) = subst (λ (c : ConnEnd). IsServed limits before after c) is served link in
+      subst (λ (c : ConnEnd). EndsForOldCall limits link before after c) (sym is) (refused_at why link read failed e)
+
+  completes_by : (end : ConnEnd) → IsServed limits before after end → IsLeftOf end → Completes limits first J before after stream end
   completes_by end served (inl memory) = inl memory
-  completes_by end served (inr is) = inr (is, closed_at end is served)
+  completes_by end served (inr (inl is)) = inr (inl (is, closed_at end is served))
+  completes_by end served (inr (inr (why, is))) = inr (inr (refused_by end why is served))
 
 pub completes : ConnectionsComplete
 completes limits before after end source source' first J stream served sc kc quiet fine stands known complete =

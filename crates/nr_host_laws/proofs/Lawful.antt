@@ -84,7 +84,7 @@ module _ (limits : ConnectionLimits) (read link : ℕ) (before now : Outside) (a
       (both (ServedMark IsPrefixOf opened link) (λ b m. QuietMark opened link b m × (WriteMark opened link b m × FrameMark opened link b m)) [] run (r.served opened is)
       (both (QuietMark opened link) (λ b m. WriteMark opened link b m × FrameMark opened link b m) [] run (r.quiet opened is)
       (both (WriteMark opened link) (FrameMark opened link) [] run (r.writes opened is) (r.frames opened is)))) in
-      let first : IsSame opened link [] [] = record { state = refl; due = refl; sent = refl; received = refl; answers = refl; refusals = refl } in
+      let first : IsSame opened link [] [] = record { state = refl; due = refl; sent = refl; received = refl; handled = refl } in
       merged opened link [] [] [] run each (all opened is) (inl (first, refl))
 
   same_run : IsSame (with_limits limits) link run (merge link [] run)
@@ -104,8 +104,7 @@ module _ (limits : ConnectionLimits) (read link : ℕ) (before now : Outside) (a
     writes = λ opened is. AtEachMark_each (KeepsTo IsAll opened link) (WriteMark opened link) [] (merge link [] run) (λ b m h. h.1.1.1.0) (as_whole opened is).0;
     frames = λ opened is. AtEachMark_each (KeepsTo IsAll opened link) (FrameMark opened link) [] (merge link [] run) (λ b m h. h.1.1.1.1) (as_whole opened is).0;
     turns = r.turns;
-    answered = r.answered ∙ sym same_run.answers;
-    refused = r.refused ∙ sym same_run.refusals;
+    handled = r.handled ∙ sym same_run.handled;
     over = subst (λ (n : ℕ). Taken n before.view r.turns now.view) (sym same_number) r.over;
     greeted = λ some none. r.greeted some (ap (frames_of Initiator) (sym same_run.received) ∙ none);
     gave = r.gave;

@@ -1,5 +1,5 @@
 -- Links of `serve`: how they end, by what their client sends.
-use Rattle.std.proofs.Common.{◌≡◌, ℕ, ◌<◌, ◌≤◌, inl, inr, Bool, true, false, List, [], ◌∷◌, length, Option, Some, None, refl, arith, subst, sym, ap, ◌∙◌}
+use Rattle.std.proofs.Common.{◌≡◌, ℕ, ◌<◌, ◌≤◌, inl, inr, Bool, true, false, List, [], ◌∷◌, ◌++◌, length, Option, Some, None, refl, arith, subst, sym, ap, ◌∙◌}
 use Rattle.std.proofs.lemmas.Bool.{ltb-false}
 use Rattle.std.proofs.lemmas.List.{length-append}
 use Rattle.std.proofs.lemmas.Option.{none-some, same_Some}
@@ -13,6 +13,8 @@ use Rattle.nr_links.specs.Peeked.{left_with}
 use Rattle.nr_record.specs.Records.{Cut, contents, encoding, encodings}
 use Rattle.nr_record.specs.RecordsState.{IsContentInLimit}
 use Rattle.nr_reduce.specs.declared.mark.Entry.{Entry}
+use Rattle.nr_reduce.specs.History.{bytes_received}
+use Rattle.nr_wire.specs.declared.hello.Side.TheVariants.{Responder}
 use Rattle.nr_plain.specs.History.{IsHistory, Opening, setup_in}
 use Rattle.nr_record_host.specs.Completing.{AnswersRecords, HasCallHead, IsComplete}
 use Rattle.nr_record_host.specs.declared.record_end.RecordEnd.{RecordEnd}
@@ -20,15 +22,15 @@ use Rattle.nr_record_host.specs.declared.record_end.RecordEnd.TheVariants as rec
 use Rattle.nr_record_host.proofs.Completing as record_completing
 use Rattle.nr_record_loop.proofs.Readers.{encoding_some}
 use Rattle.nr_host.specs.Connections.{Outside}
-use Rattle.nr_host.specs.Ending.{SourceCount}
-use Rattle.nr_host.specs.LinkServing.{HELLO_BYTE, IsKindFor, LinkSinkCount, LinkSourceCount, LooksAndServes, holding}
+use Rattle.nr_host.specs.Ending.{HasRead, ReadAt, SourceCount}
+use Rattle.nr_host.specs.LinkServing.{HELLO_BYTE, IsHeld, IsKindFor, LinkSinkCount, LinkSourceCount, LooksAndServes, holding}
 use Rattle.nr_host.specs.Steps.{outside}
 use Rattle.nr_host.specs.declared.connection_limits.ConnectionLimits.{ConnectionLimits}
 use Rattle.nr_host.specs.declared.conn_end.ConnEnd.{ConnEnd}
 use Rattle.nr_host.specs.declared.conn_end.ConnEnd.TheVariants as ends
 use Rattle.nr_host.specs.declared.link_end.LinkEnd.{LinkEnd}
 use Rattle.nr_host.specs.declared.link_end.LinkEnd.TheVariants as link_ends
-use Rattle.nr_host_laws.specs.Laws.{Completes}
+use Rattle.nr_host_laws.specs.Laws.{Completes, EndsForOldCall}
 use Rattle.nr_host_laws.specs.LinkLaws.{BeginsAsRdma, LinkCompletes, LinksComplete, RecordLinkCompletes, RecordLinksComplete, around_of, closed_outside, opened_outside}
 use Rattle.nr_host_laws.specs.Streams.{IsCompleteStream, ServesStream}
 use Rattle.nr_host_laws.proofs.Completing.{completes}
@@ -90,18 +92,43 @@ not_records [] left end hello kind = absurd kind
 not_records (byte ∷ rest) left end hello (inl other) = other hello
 not_records (byte ∷ rest) left end hello (inr never) = absurd never
 
-module _ (limits : ConnectionLimits) (first : Opening) (J : List Entry) (before after : Outside) (stream : List ℕ) (held : Option ℕ) where
+-- a connection that read something holds no byte
+some_held : (byte : ℕ) (left : Option (List ℕ)) (stream bytes : List ℕ) → Consumes (Some stream) left (byte ∷ []) → Consumes (Some stream) (left_with (Some byte) left) bytes → 0 < length bytes → ⊥
+some_held byte None stream bytes one all more = absurd one
+some_held byte (Some rest) stream bytes one all more =
+    let same : bytes ++ byte ∷ rest ≡ byte ∷ rest = sym all ∙ one in
+    let lengths = ap length same in
+    let parts = length-append bytes (byte ∷ rest) in
+    absurd (omega (arith, lengths, parts, more))
+
+none_held_by : (held : Option ℕ) (before left given given' : Option (List ℕ)) (stream bytes : List ℕ) → before ≡ Some stream → IsHeld held before given left given' → Consumes before (left_with held left) bytes → 0 < length bytes → held ≡ None
+none_held_by None before left given given' stream bytes known is all more = refl
+none_held_by (Some byte) before left given given' stream bytes known is all more =
+    absurd (some_held byte left stream bytes (subst (λ (o : Option (List ℕ)). Consumes o left (byte ∷ [])) known is.from_left) (subst (λ (o : Option (List ℕ)). Consumes o (left_with (Some byte) left) bytes) known all) more)
+
+module _ (limits : ConnectionLimits) (first : Opening) (J : List Entry) (before after : Outside) (stream : List ℕ) (held : Option ℕ) (known : before.left ≡ Some stream)
+    (held_is : IsHeld held before.left before.given after.left after.given) where
+  old_read : (end : ConnEnd) (link : ℕ) → EndsForOldCall limits link before (holding held after) end → EndsForOldCall limits link before after end
+  old_read end link o =
+      let bytes : List ℕ = bytes_received link Responder o.ended.run ++ o.ended.ahead in
+      let read : HasRead o.read = subst (λ (e : ConnEnd). ReadAt e o.read) o.end_is o.ended.read_is in
+      let some : 0 < length bytes =
+      (let more = read.0 in let count = o.ended.runs.count in let parts = length-append (bytes_received link Responder o.ended.run) o.ended.ahead in omega (arith, more, count, parts)) in
+      let none : held ≡ None = none_held_by held before.left after.left before.given after.given stream bytes known held_is o.ended.runs.handed.from_left some in
+      subst (λ (x : Outside). EndsForOldCall limits link before x end) (unheld held after none) o
+
   all_read : (end : ConnEnd) → Completes limits first J before (holding held after) stream end → Completes limits first J before after stream end
   all_read end (inl memory) = inl memory
-  all_read end (inr (closed, serves)) =
-      inr (closed, λ link. subst (λ (o : Outside). ServesStream limits first J link before o stream) (unheld held after (none_held held after.left (serves link).left)) (serves link))
+  all_read end (inr (inl (closed, serves))) =
+      inr (inl (closed, λ link. subst (λ (o : Outside). ServesStream limits first J link before o stream) (unheld held after (none_held held after.left (serves link).left)) (serves link)))
+  all_read end (inr (inr old)) = inr (inr (λ link. old_read end link (old link)))
 
 looked_completes : (limits : ConnectionLimits) (before after : Outside) (end : LinkEnd) (source source' : ℕ) (first : Opening) (J : List Entry) (stream : List ℕ)
     → LooksAndServes limits before after end → LinkSourceCount end source source' → LinkSinkCount end before.sink.faults after.sink.faults
     → (Rises source source' → ⊥) → (Rises before.sink.faults after.sink.faults → ⊥)
     → IsHistory first J before.view.seen → before.left ≡ Some stream → IsCompleteStream limits (setup_in first) J stream → BeginsAsRdma stream → LinkCompletes limits first J before after stream end
 looked_completes limits before after (link_ends.Rdma end) source source' first J stream s sc kc quiet fine stands known complete hello =
-    all_read limits first J before after stream s.held end
+    all_read limits first J before after stream s.held known s.held_is end
     (completes limits before (holding s.held after) end source source' first J stream s.serves sc kc quiet fine stands known complete)
 looked_completes limits before after (link_ends.Record end) source source' first J stream s sc kc quiet fine stands known complete hello =
     absurd (not_records stream (left_with s.held after.left) end hello

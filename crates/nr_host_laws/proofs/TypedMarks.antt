@@ -37,6 +37,7 @@ use Rattle.nr_host.specs.Connections.{IsOwn, Outside, answer_of, answers_of, IsO
 use Rattle.nr_host.specs.Turns.{AreTurns, Turn, added_at, answered_at, answered_in}
 use Rattle.nr_host.specs.Turns.Turn.{Answers, Refuses}
 use Rattle.nr_host.proofs.Turning.{alone_more}
+use Rattle.nr_host.proofs.Unnumbered.{answers_handled}
 use Rattle.nr_host.specs.declared.connection_limits.ConnectionLimits.{ConnectionLimits}
 use Rattle.nr_host_laws.specs.OwnMarks.{is_own, other_marks, own_marks}
 use Rattle.nr_host_laws.specs.Streams.{ServesStream}
@@ -196,7 +197,7 @@ connections_are_typed_lem limits read link before after end first J left ended i
       own = ended.runs.own;
       served = ended.runs.served opened (refl, refl, refl, refl);
       fed = IsBytes_left (flat_map (fed_at link Responder) ended.run) ended.ahead all;
-      replies = replies_of (setup_in first) (number_heard ended.run link) (T ++ over.more) (length T) ended.runs.turns over.mine ended.run ended.runs.answered is.tree entries over.turned;
+      replies = replies_of (setup_in first) (number_heard ended.run link) (T ++ over.more) (length T) ended.runs.turns over.mine ended.run (answers_handled ended.runs.turns ended.run ended.runs.handled) is.tree entries over.turned;
     })
 
 -- so is the stream of a connection that served all of it
@@ -214,7 +215,7 @@ stream_is_typed limits first J link before after stream served opened same bytes
       own = (served.made opened same).own;
       served = (served.made opened same).served;
       fed = subst IsBytes (sym served.fed) bytes;
-      replies = replies_of (setup_in first) (number_heard served.run link) (T ++ over.more) (length T) served.turns over.mine served.run served.answers tree all over.turned;
+      replies = replies_of (setup_in first) (number_heard served.run link) (T ++ over.more) (length T) served.turns over.mine served.run (answers_handled served.turns served.run served.handled) tree all over.turned;
     })).0
 
 -- ---- A run of both sides

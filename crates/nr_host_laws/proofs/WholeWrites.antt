@@ -16,10 +16,11 @@ use Rattle.nr_reduce.specs.Run.{output_due, server}
 use Rattle.nr_reduce.specs.Server.{server_end, server_output, server_rules, server_state_after}
 use Rattle.nr_reduce.specs.ServerState.{ServerState}
 use Rattle.nr_reduce.proofs.CountedBytes.{server_bytes_written}
-use Rattle.nr_reduce.proofs.Standing.{itself, one_more, received_one, sent_one}
+use Rattle.nr_reduce.proofs.Standing.{itself, received_one, sent_one}
 use Rattle.nr_reduce.proofs.Steps.{ended_stays, output_due_down_one, server_one}
-use Rattle.nr_plain.specs.History.{Answered}
-use Rattle.nr_host.specs.Connections.{answer_of, answers_of, refusal_of, refusals_of}
+use Rattle.nr_host.specs.Connections.{handled_by, handled_in}
+use Rattle.nr_host.specs.Turns.{Handled}
+use Rattle.nr_host.proofs.Marks.{handled_more}
 
 -- ---- The server, but for what it has written
 
@@ -66,8 +67,7 @@ pub record IsSame (opened : LinkParameters) (link : ℕ) (run run' : List Mark) 
   pub due : output_due opened link Responder run' ≡ output_due opened link Responder run
   pub sent : bytes_sent link Responder run' ≡ bytes_sent link Responder run
   pub received : bytes_received link Responder run' ≡ bytes_received link Responder run
-  pub answers : answers_of run' ≡ answers_of run
-  pub refusals : refusals_of run' ≡ refusals_of run
+  pub handled : handled_in run' ≡ handled_in run
 
 pub record IsBehind (opened : LinkParameters) (link : ℕ) (run run' : List Mark) (left : List ℕ) : Type 0 where
   pub written : ℕ
@@ -76,16 +76,7 @@ pub record IsBehind (opened : LinkParameters) (link : ℕ) (run run' : List Mark
   pub kept : (end : End) → (server opened link run).ended ≡ Some end → written ≡ (server opened link run).state.written
   pub sent : bytes_sent link Responder run' ++ left ≡ bytes_sent link Responder run
   pub received : bytes_received link Responder run' ≡ bytes_received link Responder run
-  pub answers : answers_of run' ≡ answers_of run
-  pub refusals : refusals_of run' ≡ refusals_of run
-
-answers_more : (run : List Mark) (mark : Mark) → answers_of (run ++ mark ∷ []) ≡ answers_of run ++ answer_of mark
-unfolding answers_of
-answers_more run mark = one_more answer_of run mark
-
-refusals_more : (run : List Mark) (mark : Mark) → refusals_of (run ++ mark ∷ []) ≡ refusals_of run ++ refusal_of mark
-unfolding refusals_of
-refusals_more run mark = one_more refusal_of run mark
+  pub handled : handled_in run' ≡ handled_in run
 
 module _ (opened : LinkParameters) (link : ℕ) where
   -- a run that goes on with some marks, of which the server's state stays
@@ -106,8 +97,7 @@ module _ (opened : LinkParameters) (link : ℕ) where
     due = h.due;
     sent = append-nil (bytes_sent link Responder run') ∙ h.sent;
     received = h.received;
-    answers = h.answers;
-    refusals = h.refusals;
+    handled = h.handled;
   }
 
   pub same_more : (run run' : List Mark) (mark : Mark) → IsSame opened link run run' → IsSame opened link (run ++ mark ∷ []) (run' ++ mark ∷ [])
@@ -120,8 +110,7 @@ module _ (opened : LinkParameters) (link : ℕ) where
         ∙ sym (output_due_down_one opened link run mark);
     sent = sent_one link Responder run' mark ∙ ap (λ (l : List ℕ). l ++ written_at link Responder mark) h.sent ∙ sym (sent_one link Responder run mark);
     received = received_one link Responder run' mark ∙ ap (λ (l : List ℕ). l ++ fed_at link Responder mark) h.received ∙ sym (received_one link Responder run mark);
-    answers = answers_more run' mark ∙ ap (λ (l : List Answered). l ++ answer_of mark) h.answers ∙ sym (answers_more run mark);
-    refusals = refusals_more run' mark ∙ ap (λ (l : List ℕ). l ++ refusal_of mark) h.refusals ∙ sym (refusals_more run mark);
+    handled = handled_more run' mark ∙ ap (λ (l : List Handled). l ++ handled_by mark) h.handled ∙ sym (handled_more run mark);
   }
 
   pub wrote_more : (run run' : List Mark) (left bytes : List ℕ) (l : ℕ) → l ≡ link → IsBehind opened link run run' left
@@ -145,8 +134,7 @@ module _ (opened : LinkParameters) (link : ℕ) where
         kept = kept;
         sent = sym (append_assoc (bytes_sent link Responder run') left bytes) ∙ ap (λ (xs : List ℕ). xs ++ bytes) h.sent ∙ sym sent;
         received = h.received ∙ sym (received_one link Responder run (marks.Wrote l Responder bytes) ∙ append-nil (bytes_received link Responder run));
-        answers = h.answers ∙ sym (answers_more run (marks.Wrote l Responder bytes) ∙ append-nil (answers_of run));
-        refusals = h.refusals ∙ sym (refusals_more run (marks.Wrote l Responder bytes) ∙ append-nil (refusals_of run));
+        handled = h.handled ∙ sym (handled_more run (marks.Wrote l Responder bytes) ∙ append-nil (handled_in run));
       }
 
       its : events_at link Responder run (marks.Wrote l Responder bytes) ≡ QueueWritten (length bytes) ∷ []
@@ -187,8 +175,7 @@ module _ (opened : LinkParameters) (link : ℕ) where
         due = due;
         sent = sent ∙ h.sent;
         received = received_one link Responder run' (marks.Wrote link Responder left) ∙ append-nil (bytes_received link Responder run') ∙ h.received;
-        answers = answers_more run' (marks.Wrote link Responder left) ∙ append-nil (answers_of run') ∙ h.answers;
-        refusals = refusals_more run' (marks.Wrote link Responder left) ∙ append-nil (refusals_of run') ∙ h.refusals;
+        handled = handled_more run' (marks.Wrote link Responder left) ∙ append-nil (handled_in run') ∙ h.handled;
       }
 
       by : (x : Option End) → (server opened link run).ended ≡ x → IsSame opened link run (run' ++ marks.Wrote link Responder left ∷ [])

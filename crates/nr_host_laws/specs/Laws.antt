@@ -4,7 +4,9 @@ use Rattle.std.specs.Prelude.{◌≡◌, ◌≢◌, ℕ, ◌⊎◌, List, [], le
 use Rattle.nr_xdr.specs.Item.{IsBytes}
 use Rattle.nr_outside.specs.Faults.{Rises}
 use Rattle.nr_outside.specs.declared.moment.Moment.{Moment}
+use Rattle.nr_link.specs.Reasons.{REASON_OLD}
 use Rattle.nr_link.specs.declared.end.End.{End}
+use Rattle.nr_link.specs.declared.end.End.TheVariants as link_ends
 use Rattle.nr_reduce.specs.declared.mark.Mark.{Mark}
 use Rattle.nr_reduce.specs.KeepsReplyLimits.{KeepsReplyLimits}
 use Rattle.nr_reduce.specs.Opening.{IsOpened}
@@ -20,13 +22,14 @@ use Rattle.nr_reduce.specs.declared.mark.Entry.{Entry}
 use Rattle.nr_reduce.specs.declared.mark.LinkParameters.{LinkParameters}
 use Rattle.nr_reduce.specs.DueItems.{hello_due, items_due}
 use Rattle.nr_reduce.specs.History.{bytes_sent}
+use Rattle.nr_reduce.specs.NumberedJournal.{number_heard}
 use Rattle.nr_reduce.specs.Run.{server}
 use Rattle.nr_reduce.specs.Served.{Served}
 use Rattle.nr_laws.specs.Typed.{IsTyped}
 use Rattle.nr_plain.specs.Setup.{Setup}
 use Rattle.nr_byte_laws.specs.InBytes.{EntriesInBytes, IsInBytes}
 use Rattle.nr_plain.specs.History.{IsHistory, Opening, setup_in}
-use Rattle.nr_host.specs.Connections.{Outside, IsOpenedWith}
+use Rattle.nr_host.specs.Connections.{Outside, IsOpenedWith, refusals_of}
 use Rattle.nr_host.specs.Ending.{Ended, SinkCount, SourceCount}
 use Rattle.nr_host.specs.Steps.{IsServed, with_failed}
 use Rattle.nr_host.specs.declared.connection_limits.ConnectionLimits.{ConnectionLimits}
@@ -36,10 +39,21 @@ use Rattle.nr_host_laws.specs.OwnMarks.{other_marks, own_marks}
 use Rattle.nr_host_laws.specs.Streams.{IsCompleteStream, ServesStream}
 use Rattle.nr_host_laws.specs.TypedMarks.{IsOverBytes}
 
--- `Closed`, after all of the stream, whatever number the link has in the marks; or memory ran out
+-- A call was old when its turn came, and the connection ended for that, for reason 28. Its client has a number.
+pub record EndsForOldCall (limits : ConnectionLimits) (link : ℕ) (before after : Outside) (end : ConnEnd) : Type 0 where
+  pub at : ℕ
+  pub end_is : end ≡ ends.Protocol (link_ends.Bad at REASON_OLD)
+  pub read : ℕ
+  pub failed : Bool
+  pub ended : Ended limits read link before (with_failed failed after) end
+  pub numbered : number_heard ended.run link ≢ 0
+  pub refused : refusals_of ended.run ≢ []
+
+-- `Closed`, after all of the stream, whatever number the link has in the marks; or a call was old; or memory ran out
 abbrev pub Completes : (limits : ConnectionLimits) → Opening → List Entry → (before after : Outside) → List ℕ → ConnEnd → Type 0
 Completes limits first J before after stream end =
-    (end ≡ ends.Memory) ⊎ ((end ≡ ends.Closed) × ((link : ℕ) → ServesStream limits first J link before after stream))
+    (end ≡ ends.Memory) ⊎ (((end ≡ ends.Closed) × ((link : ℕ) → ServesStream limits first J link before after stream))
+    ⊎ ((link : ℕ) → EndsForOldCall limits link before after end))
 
 -- A connection that doesn't run out of memory has marks, as the clause `served` of `serve_connection` says, of which
 -- the law of a link's server holds in full: each Wrote writes all that is due.

@@ -16,9 +16,9 @@ use Rattle.nr_reduce.specs.Served.{Served, ServedSoFar}
 use Rattle.nr_plain.specs.Setup.{Setup}
 use Rattle.nr_plain.specs.History.{Opening, setup_in}
 use Rattle.nr_links.specs.Limits.{read_max}
-use Rattle.nr_host.specs.Connections.{Outside, IsOwn, IsQuiet, QuietMark, WriteMark, FrameMark, GivesAll, answers_of, refusals_of, IsOpenedWith}
+use Rattle.nr_host.specs.Connections.{Outside, IsOwn, QuietMark, WriteMark, FrameMark, GivesAll, handled_in, refusals_of, IsOpenedWith}
 use Rattle.nr_host.specs.Ending.{IsIdle}
-use Rattle.nr_host.specs.Turns.{AreTurns, TakenOver, Turn, answered_in, given_for, refused_in}
+use Rattle.nr_host.specs.Turns.{AreTurns, TakenOver, Turn, given_for, handled_at}
 use Rattle.nr_host.specs.declared.connection_limits.ConnectionLimits.{ConnectionLimits}
 
 -- Marks that a connection may have made when it has read the first bytes of this stream, or all: it fed them frame by
@@ -36,21 +36,20 @@ pub record MayHaveMade (s : Setup) (J : List Entry) (opened : LinkParameters) (l
   pub journal : entries_alone entries ≡ J
   pub more : List TaggedEntry
   pub turns : List Turn
-  pub answers : answered_in turns ≡ answers_of run
-  pub refusals : refused_in turns ≡ refusals_of run
+  pub handled : map handled_at turns ≡ handled_in run
   pub mine : List ℕ
   pub turned : AreTurns s (number_heard run link) (entries ++ more) (length entries) turns mine
 
--- A client's stream that a server with these limits reads to its end, after the entries J: it has fewer bytes than the
--- maximum, ends the server's side at none of them, and ends at no byte or after complete frames, when each call that it
--- asks for can be answered.
+-- A client's stream that a server with these limits reads to its end, after the entries J, unless a call of it is old: it
+-- has fewer bytes than the maximum, ends the server's side at none of them if no call is refused, and ends at no byte or
+-- after complete frames, when each call that it asks for can be answered.
 pub record IsCompleteStream (limits : ConnectionLimits) (s : Setup) (J : List Entry) (stream : List ℕ) : Type 0 where
   pub within : length stream < read_max
   pub frames : (input_of Initiator stream).rest ≡ []
   pub stays : (opened : LinkParameters) (link : ℕ) (run : List Mark) → IsOpenedWith limits opened →
-      MayHaveMade s J opened link stream run → (server opened link run).ended ≡ None
+      MayHaveMade s J opened link stream run → refusals_of run ≡ [] → (server opened link run).ended ≡ None
   pub answered : (opened : LinkParameters) (link : ℕ) (run : List Mark) → IsOpenedWith limits opened →
-      MayHaveMade s J opened link stream run → bytes_received link Responder run ≡ stream → IsQuiet opened link run →
+      MayHaveMade s J opened link stream run → bytes_received link Responder run ≡ stream → IsIdle opened link run →
       (server opened link run).state.calls ≡ []
 
 -- A connection served such a stream: it read and fed all of it and nothing else, the sink took all that was written,
@@ -63,8 +62,7 @@ pub record ServesStream (limits : ConnectionLimits) (first : Opening) (J : List 
   pub given : Appends before.given after.given stream
   pub taken : Appends before.sink.taken after.sink.taken (bytes_sent link Responder run)
   pub turns : List Turn
-  pub answers : answered_in turns ≡ answers_of run
-  pub refusals : refused_in turns ≡ refusals_of run
+  pub handled : map handled_at turns ≡ handled_in run
   pub gave : GivesAll before.gave after.gave (map given_for turns)
   pub entries : List TaggedEntry
   pub journal : entries_alone entries ≡ J

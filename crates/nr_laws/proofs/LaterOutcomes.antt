@@ -205,6 +205,6 @@ no_outcome_twice opened link other run before other_before xid outcome other_out
     by [] same = (
       sym same,
       one_outcome (opened link) link run before other_before one.after two.after xid outcome other_outcome (subst (λ (l : ℕ). AskedSoFar (opened l) l run) same (asked other itself)) one.is
-      (subst (λ (l : ℕ). run ≡ other_before ++ marks.Done l xid other_outcome ∷ two.after) same two.is),
+          (subst (λ (l : ℕ). run ≡ other_before ++ marks.Done l xid other_outcome ∷ two.after) same two.is),
     )
     by (old ∷ links) g = absurd (not_later old links g)

@@ -25,7 +25,7 @@ use Rattle.nr_laws.specs.MarkAt.{MarkAt}
 use Rattle.nr_laws.specs.MatchedSoFar.{MatchedSoFar}
 use Rattle.nr_laws.specs.OnceEach.{BegunLink, IsEarlier, MatchedWithEarlier, OpenedWithEarlier, OneClientEach, ClientIsMatched, NumberedLinksAreAtPlaces}
 use Rattle.nr_laws.specs.Payloads.{HasPlan, form_conveyed}
-use Rattle.nr_laws.specs.PlainLinks.{server_with, AtPlaceOnMark}
+use Rattle.nr_laws.specs.PlainLinks.{AtPlacesOn, server_with, AtPlaceOnMark}
 use Rattle.nr_laws.specs.Typed.{TypedMark, IsTyped}
 use Rattle.nr_laws.proofs.Basics.{some_is_lem}
 use Rattle.nr_laws.proofs.EarlierLinks.{LinkKeeps, SameCall, same_call, each_earlier}

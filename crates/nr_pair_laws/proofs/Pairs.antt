@@ -44,7 +44,7 @@ use Rattle.nr_host.specs.declared.connection_limits.ConnectionLimits.{Connection
 use Rattle.nr_host.specs.declared.conn_end.ConnEnd.{ConnEnd}
 use Rattle.nr_host.specs.Steps.{with_failed}
 use Rattle.nr_host.proofs.Turning.{alone_more}
-use Rattle.nr_host.proofs.Unnumbered.{over_of_marks}
+use Rattle.nr_host.proofs.Unnumbered.{answers_handled, over_of_marks}
 use Rattle.nr_host_laws.specs.OwnMarks.{own_marks}
 use Rattle.nr_host_laws.proofs.Lawful.{keep_the_law}
 use Rattle.nr_host_laws.proofs.OwnMarks.{same_server}
@@ -142,7 +142,7 @@ connection_replies limits first J opened link outside outside' end connection bo
     subst EntriesInBytes (sym (alone_more T over.more))
     (all_bytes (setup_in first) (entries_alone T) (entries_alone over.more) (subst EntriesInBytes (sym connection.history.journal) entries) over.of_calls) in
     subst (λ (r : List Mark). RepliesInBytes (flat_map answer_of r)) (sym same)
-    (replies_of (setup_in first) (number_heard connection.ended.run link) (T ++ over.more) (length T) runs.turns over.mine connection.ended.run runs.answered tree all over.turned)
+    (replies_of (setup_in first) (number_heard connection.ended.run link) (T ++ over.more) (length T) runs.turns over.mine connection.ended.run (answers_handled runs.turns connection.ended.run runs.handled) tree all over.turned)
 
 pub pairs_are_served_lem : PairsAreServed
 pairs_are_served_lem limits first J opened link outside outside' end connection c before after input input' out out' result (NotOpened why is fails same_input same_out) session same sane = tt

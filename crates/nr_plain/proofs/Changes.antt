@@ -54,7 +54,7 @@ use Rattle.nr_reduce.specs.Limits.{send_unit}
 header_short : (offer : ChunkLists) → ListsWithin offer → answer_size offer.write ≤ HEADER_LEN_MIN + 8 * WRITE_CHUNKS_MAX + SEGMENT_LEN * WRITE_SEGMENTS_MAX
 header_short offer within = omega (arith, write_list_segments offer.write, within.write_chunks, within.write_segments)
 
-abbrev Plain : ℕ → Type 0
+abbrev pub Plain : ℕ → Type 0
 Plain proc = (eqb proc 6 ≡ false) × (eqb proc 5 ≡ false)
 
 neither : {A : Type 0} (b c d : Bool) (x y : Option A) → c ≡ false → d ≡ false → cond (b && c) x (cond (b && d) y None) ≡ None
@@ -82,7 +82,7 @@ inline_held offer down p le none =
     ap (λ (b : Bool). cond b (Some (record { long = false; stream = p.stream; moved = p.moved })) (cond (fits_reply offer.reply (length p.stream)) (Some (record { long = true; stream = p.stream; moved = p.moved })) None)) (le-leb (answer_size offer.write + length p.stream) down le) in
     absurd cc
 
-short_held : (offer : ChunkLists) (down prog vers proc : ℕ) (reply : List ℕ) → ListsWithin offer → send_unit ≤ down → length reply ≤ reply_max → Plain proc → answer_for offer down prog vers proc reply ≢ None
+pub short_held : (offer : ChunkLists) (down prog vers proc : ℕ) (reply : List ℕ) → ListsWithin offer → send_unit ≤ down → length reply ≤ reply_max → Plain proc → answer_for offer down prog vers proc reply ≢ None
 unfolding answer_for
 short_held offer down prog vers proc reply within room le plain =
     subst (λ (o : Option Parts). answer_with offer down o ≢ None) (sym (whole_stream prog vers proc offer.write reply plain))

@@ -74,7 +74,7 @@ only_cred None es own e only is = only is
 only_cred (Some stat) es own e only is = absurd cc
 
 -- the entry that a call with this head adds is of its moment, its procedure, its credential and its arguments
-only_own : (m : Moment) (payload reply : List ℕ) (xid prog vers proc at : ℕ) (cred : Cred) (e : Entry) → entries_by_call m payload reply (Ok (calls.Version2 xid prog vers proc cred at)) ≡ e ∷ []
+pub only_own : (m : Moment) (payload reply : List ℕ) (xid prog vers proc at : ℕ) (cred : Cred) (e : Entry) → entries_by_call m payload reply (Ok (calls.Version2 xid prog vers proc cred at)) ≡ e ∷ []
     → e ≡ record { moment = m; cred = cred; proc = proc; args = drop at payload }
 only_own m payload reply xid prog vers proc at cred e is =
     let own : Entry = record { moment = m; cred = cred; proc = proc; args = drop at payload } in

@@ -34,7 +34,7 @@ pub record Readable {A : Type 0} (c : Codec A) (xs : List Item) : Type 0 where
 
 -- ===== single items
 
-number_readable : (n place : ℕ) (bytes rest : List ℕ) → length bytes ≡ 4 → or_place (unsigned_at (standing place (bytes ++ rest))) ≡ Ok (word_of (take 4 (bytes ++ rest)), standing (place + 4) rest)
+pub number_readable : (n place : ℕ) (bytes rest : List ℕ) → length bytes ≡ 4 → or_place (unsigned_at (standing place (bytes ++ rest))) ≡ Ok (word_of (take 4 (bytes ++ rest)), standing (place + 4) rest)
 unfolding unsigned_at cursor_past
 number_readable n place bytes rest four =
     let enough : ltb (length (bytes ++ rest)) 4 ≡ false = le-ltb (length (bytes ++ rest)) 4 (omega (arith, length-append bytes rest, four)) in
@@ -85,7 +85,7 @@ enumeration_readable {A} number all v fits each = record {
 
 -- ===== composite values
 
-split : (xs ys : List Item) (rest : List ℕ) → encodings (xs ++ ys) ++ rest ≡ encodings xs ++ (encodings ys ++ rest)
+pub split : (xs ys : List Item) (rest : List ℕ) → encodings (xs ++ ys) ++ rest ≡ encodings xs ++ (encodings ys ++ rest)
 split xs ys rest = ap (λ (l : List ℕ). l ++ rest) (encodings_append xs ys) ∙ append_assoc (encodings xs) (encodings ys) rest
 
 pair_readable : {A B : Type 0} (a : Codec A) (b : Codec B) (xs ys : List Item) → Readable a xs → Readable b ys → Readable (a ⊗ b) (xs ++ ys)

@@ -14,8 +14,9 @@ use Rattle.nr_turnstile.specs.declared.plays.View.{View}
 use Rattle.nr_plain.specs.declared.history_entry.HistoryEntry.{HistoryEntry}
 use Rattle.nr_plain.specs.declared.history_entry.HistoryEntry.TheVariants.{Opened, Added}
 use Rattle.nr_reduce.specs.declared.mark.TaggedEntry.{TaggedEntry}
-use Rattle.nr_reduce.specs.NumberedJournal.{tagged, entries_alone}
-use Rattle.nr_plain.specs.History.{Opening, setup_in, additions, history, IsHistory, closes_none, AreOfCalls, PassView, OnlyOthersAdded}
+use Rattle.nr_reduce.specs.NumberedJournal.{HasNoEntryTwice, tagged, entries_alone}
+use Rattle.nr_plain.proofs.EntriesApart.{none_twice}
+use Rattle.nr_plain.specs.History.{Opening, setup_in, additions, history, HasNoCallTwice, IsHistory, closes_none, AreOfCalls, PassView, OnlyOthersAdded}
 use Rattle.nr_plain.proofs.OfCalls.{later_of_calls}
 
 -- ===== histories and their entries
@@ -77,6 +78,11 @@ later : (f g : Opening) (S T : List TaggedEntry) (more : List HistoryEntry) → 
 later f g S T more e =
     sym (all_of_added T) ∙ ap all_tagged_in e ∙ all_append (history f S) more ∙ ap (λ (l : List TaggedEntry). l ++ all_tagged_in more) (all_of_added S)
 
+-- The entries of the history for which a server stands are the same, whatever history it is said to be.
+pub no_call_twice : (kept : PlainServerState) (h : List HistoryEntry) → StandsFor kept h → HasNoCallTwice h
+no_call_twice kept h (first, (T, (is, stands))) other U also =
+    let same : T ≡ U = sym (all_of_added T) ∙ ap all_tagged_in (sym is ∙ also) ∙ all_of_added U in subst HasNoEntryTwice same stands.once
+
 pub begins_itself : (xs : List HistoryEntry) → Begins xs xs
 begins_itself xs = ([], sym (append-nil xs))
 
@@ -126,19 +132,10 @@ others_added before at after kept begins own stands same same_own first J i =
         is = same ∙ f.is;
         journal = alone_append i.entries f.others ∙ ap (λ (l : List Entry). l ++ entries_alone f.others) i.journal;
       };
+      once = no_call_twice kept after.seen (subst (StandsFor kept) (sym same) stands);
       of_calls = subst (λ (l : List Entry). AreOfCalls (setup_in first) l (entries_alone f.others)) i.journal f.of_calls;
       mine_is = same_own ∙ own;
     }
-
--- a pass that has seen no more
-pub none_added : (view : PassView) → OnlyOthersAdded view view
-none_added view first J i = record {
-  others = [];
-  begins = begins_itself view.seen;
-  seen = subst (λ (l : List Entry). IsHistory first l view.seen) (sym (append-nil J)) i;
-  of_calls = tt;
-  mine_is = refl;
-}
 
 -- ===== lengths
 
@@ -183,6 +180,7 @@ opened_stands kept first h is h_is (s, stands) = (
         };
         of_calls = tt;
         have_calls = All-nil HasCall;
+        once = none_twice;
       },
     ),
   ),

@@ -81,6 +81,7 @@ over_none view first J i = record {
   more = [];
   begins = begins_itself view.seen;
   seen = subst (λ (l : List Entry). IsHistory first l view.seen) (sym (append-nil J)) i;
+  once = λ none. none;
   of_calls = tt;
   placed = (let same = ap length (append-nil J) in omega (arith, same));
   mine_is = sym (append-nil view.mine) ∙ ap (λ (l : List ℕ). view.mine ++ l) (sym own_none);
@@ -102,6 +103,7 @@ over_executed before now after client m payload reply place calls over executes 
       begins = begins_on before.seen x.found after.seen (begins_on before.seen now.seen x.found o.begins x.begins) (_, x.seen);
       seen = subst (λ (l : List Entry). IsHistory first l after.seen) (sym all)
           (subst (λ (h : List HistoryEntry). IsHistory first (J1 ++ es) h) (sym x.seen) (history_grows first J1 x.found client (xid_in payload) es x.found_is));
+      once = λ none. x.once;
       of_calls = both_of_calls (setup_in first) J o.more (x.others ++ es) o.of_calls x.of_calls;
       placed = subst (λ (l : List Entry). AllPlaced (setup_in first) l (length J) (calls ++ a ∷ [])) (sym all)
           (place_last (setup_in first) J1 (length J) calls a (grow (setup_in first) (J ++ o.more) x.others (length J) calls o.placed) x.place_is
@@ -122,6 +124,7 @@ over_others before now after calls over added first J i =
       more = o.more ++ f.others;
       begins = begins_on before.seen now.seen after.seen o.begins f.begins;
       seen = subst (λ (l : List Entry). IsHistory first l after.seen) all f.seen;
+      once = λ none. f.once;
       of_calls = both_of_calls (setup_in first) J o.more f.others o.of_calls f.of_calls;
       placed = subst (λ (l : List Entry). AllPlaced (setup_in first) l (length J) calls) all (grow (setup_in first) (J ++ o.more) f.others (length J) calls o.placed);
       mine_is = f.mine_is ∙ o.mine_is;

@@ -7,14 +7,16 @@ use Rattle.std.proofs.lemmas.Bool.{eqb-true, eqb-false, ne_eqb}
 use Rattle.std.proofs.lemmas.List.Elements.{All-head, All-tail}
 use Rattle.nr_reduce.specs.declared.mark.Entry.{Entry}
 use Rattle.nr_reduce.specs.declared.mark.TaggedEntry.{TaggedEntry}
-use Rattle.nr_reduce.specs.NumberedJournal.{Standing, call_of_entry, entries_alone, kept_or_new as standing_at, largest_xid, place_from, place_of_entry, standing, standing_for, top_of as top_of_entries}
+use Rattle.nr_reduce.specs.NumberedJournal.{Standing, added_by, call_of_entry, entries_alone, kept_or_new as standing_at, largest_xid, place_from, place_of_entry, standing, standing_for, top_of as top_of_entries}
 use Rattle.nr_reduce.specs.NumberedJournal.Standing.{Old, Kept, New}
 use Rattle.nr_cache.specs.Entries.{KeptEntry, Finding, entries_of, found_for, found_in, kept_or_new, larger, top_of, window}
 use Rattle.nr_cache.specs.Entries.Finding.{KeptCall, OldCall, NewCall}
 use Rattle.nr_plain.specs.Setup.{Parameters, Setup, State}
 use Rattle.nr_plain.specs.Journal.{first_state, next_state, state_after, state_of}
 use Rattle.nr_plain.specs.Replies.{Answer, plain_answer, plain_reply}
-use Rattle.nr_plain.specs.Numbered.{FindingIsStanding, FoundAs, HasCall, added_if, answer_of_entry, finding, kept_from, kept_replies}
+use Rattle.nr_plain.specs.History.{entries_added, xid_in}
+use Rattle.nr_plain.specs.Numbered.{FindingIsStanding, FoundAs, HasCall, NumberedCall, added_for, added_if, answer_of_entry, finding, kept_from, kept_replies}
+use Rattle.nr_plain.specs.Turns.{added_to}
 use Rattle.nr_plain.proofs.EntryCalls.{answer_again}
 
 -- the reply of an entry that is kept
@@ -180,3 +182,16 @@ module _ (s : Setup) (T : List TaggedEntry) where
 
 pub finding_is_standing : FindingIsStanding
 finding_is_standing s T client xid = found_either s T client xid (eqb client 0) refl
+
+-- ===== what a call adds
+
+added_as : (k : Standing) (f : Finding) (s : Setup) (T es : List TaggedEntry) → FoundAs s T k f → added_if f es ≡ added_by k es
+added_as (Old top) f s T es h = ap (λ (g : Finding). added_if g es) h
+added_as (Kept place) f s T es (reply, h, given) = ap (λ (g : Finding). added_if g es) h
+added_as New f s T es h = ap (λ (g : Finding). added_if g es) h
+
+-- by what the call is in a run
+pub added_same : (s : Setup) (T : List TaggedEntry) (c : NumberedCall) → added_for s T c ≡ added_to T c.client c.moment c.payload c.reply
+added_same s T c =
+    added_as (standing_for T c.client (xid_in c.payload)) (finding s T c.client (xid_in c.payload)) s T (entries_added c.client c.moment c.payload c.reply)
+    (finding_is_standing s T c.client (xid_in c.payload))

@@ -19,8 +19,8 @@ use Rattle.nr_plain.specs.Added.{entries_of_call}
 use Rattle.nr_plain.specs.Replies.{plain_reply}
 use Rattle.nr_plain.specs.ReplyLaws.{plain_server}
 use Rattle.nr_plain.specs.Stands.{PlainServerState, IsCause, RepresentsJournal}
-use Rattle.nr_plain.specs.History.{Opening, setup_in, additions, history, AreOfCalls, Executes, IsHistory, OnlyOthersAdded, PassView, entries_added, entry_to_append, first_added, xid_in}
-use Rattle.nr_plain.specs.Numbered.{AnswersFor, FoundAs, HasCall, IsAnswerBy, IsNumberedCause, LeavesServer, NumberedCall, RepresentsTagged, added_for, added_if, finding}
+use Rattle.nr_plain.specs.History.{Opening, setup_in, additions, history, AreOfCalls, Executes, HasNoCallTwice, IsHistory, OnlyOthersAdded, PassView, entries_added, entry_to_append, first_added, xid_in}
+use Rattle.nr_plain.specs.Numbered.{AnswersAreThoseOfRuns, AnswersFor, FoundAs, HasCall, IsAnswerBy, IsNumberedCause, LeavesServer, NumberedCall, OldCallsAreOld, RepresentsTagged, added_for, added_if, finding}
 use Rattle.nr_plain.specs.Turns.{Answers, AnswersAt, FindsOldAt, IsCauseFor, StandsAfter, StandsFor, added_to}
 use Rattle.nr_plain.specs.private.Executing.{IsOne}
 use Rattle.nr_plain.specs.declared.fault.Fault.{Fault}
@@ -28,28 +28,19 @@ use Rattle.nr_plain.specs.declared.fault.Fault.TheVariants as faults
 use Rattle.nr_plain.specs.declared.history_entry.HistoryEntry.{HistoryEntry}
 use Rattle.nr_plain.specs.declared.history_entry.HistoryEntry.TheVariants.{Opened, Added}
 use Rattle.nr_plain.proofs.EntryCalls.{entries_have_calls}
-use Rattle.nr_plain.proofs.Histories.{Found, alone_append, found, stood_length, tagged_alone}
+use Rattle.nr_plain.proofs.ChangesOnce.{one_call}
+use Rattle.nr_plain.proofs.Histories.{Found, alone_append, found, no_call_twice, stood_length, tagged_alone}
 use Rattle.nr_plain.proofs.NumberedAnswers.{same_stands, unnumbered_new}
 use Rattle.nr_plain.proofs.OfCalls.{both_of_calls, of_call}
 use Rattle.nr_plain.proofs.OneEntry.{few}
-use Rattle.nr_plain.proofs.Standings.{finding_is_standing}
+use Rattle.nr_plain.proofs.Standings.{added_same, finding_is_standing}
 
 abbrev call_made : (client : ℕ) → Moment → (payload reply : List ℕ) → NumberedCall
 call_made client m payload reply = record { client = client; moment = m; payload = payload; reply = reply }
 
 -- ===== what a call adds
 
-none_added_by : (k : Standing) (f : Finding) (s : Setup) (T es : List TaggedEntry) → FoundAs s T k f → added_if f es ≡ added_by k es
-none_added_by (Old top) f s T es h = ap (λ (g : Finding). added_if g es) h
-none_added_by (Kept place) f s T es (reply, h, given) = ap (λ (g : Finding). added_if g es) h
-none_added_by New f s T es h = ap (λ (g : Finding). added_if g es) h
-
 module _ (s : Setup) (T : List TaggedEntry) (client : ℕ) (m : Moment) (payload reply : List ℕ) where
-  added_same : added_for s T (call_made client m payload reply) ≡ added_to T client m payload reply
-  added_same =
-      none_added_by (standing_for T client (xid_in payload)) (finding s T client (xid_in payload)) s T (entries_added client m payload reply)
-      (finding_is_standing s T client (xid_in payload))
-
   abbrev IsFewTagged : List TaggedEntry → Type 0
   IsFewTagged es = (es ≡ []) ⊎ IsOne es
 
@@ -69,7 +60,7 @@ module _ (s : Setup) (T : List TaggedEntry) (client : ℕ) (m : Moment) (payload
   appended_by NewCall (t, one) = ap (λ (es : List TaggedEntry). first_added es ∷ []) one ∙ sym (ap additions one)
 
   appended : IsOne (added_for s T (call_made client m payload reply)) → entry_to_append client m payload reply ∷ [] ≡ additions (added_to T client m payload reply)
-  appended one = appended_by (finding s T client (xid_in payload)) one ∙ ap additions added_same
+  appended one = appended_by (finding s T client (xid_in payload)) one ∙ ap additions (added_same s T (call_made client m payload reply))
 
   -- one entry is added if and only if the journal grew
   pub adds_by : (before after : PlainServerState) (n len : ℕ) → ((r : Setup) (J : List Entry) → RepresentsJournal r J before → n ≡ length J) → ((r : Setup) (J : List Entry) → RepresentsJournal r J after → len ≡ length J)
@@ -130,6 +121,7 @@ module _ (first : Opening) (T : List TaggedEntry) (client : ℕ) (m : Moment) (p
         (both_of_calls (setup_in first) [] (entries_alone T) (entries_alone new_entries) stands.of_calls of_added);
     have_calls = All-append HasCall T new_entries stands.have_calls
         (have_calls_by (setup_in first) T client m payload reply place before after (finding (setup_in first) T client (xid_in payload)) bytes);
+    once = one_call (setup_in first) T (call_made client m payload reply) stands.once;
   }
 
 history_append : (first : Opening) (T U : List TaggedEntry) → history first T ++ additions U ≡ history first (T ++ U)
@@ -156,7 +148,7 @@ module _ (kept kept' : PlainServerState) (h : List HistoryEntry) (client : ℕ) 
       let s : Setup = setup_in first in
       let added : List TaggedEntry = added_for s T (call_made client m payload reply) in
       let last : entry_to_append client m payload reply ∷ [] ≡ additions added =
-      appended s T client m payload reply (one s T stands.represents) ∙ sym (ap additions (added_same s T client m payload reply)) in (
+      appended s T client m payload reply (one s T stands.represents) ∙ sym (ap additions (added_same s T (call_made client m payload reply))) in (
         first,
         (
           T ++ added,
@@ -196,6 +188,19 @@ runs_by s T client m payload reply place before after New f all h a =
     let at : place ≡ length (entries_alone T) = own.1 ∙ sym (length-map T (λ (t : TaggedEntry). t.entry)) in
     (m, ((own.1, subst (λ (n : ℕ). plain_reply s (entries_alone T) n m payload ≡ Some reply) at own.0), λ new. refl))
 
+pub answered_as_run : AnswersAreThoseOfRuns
+answered_as_run s T client now payload reply place before after all bytes x =
+    let r = runs_by s T client now payload reply place before after (standing_for T client (xid_in payload)) (finding s T client (xid_in payload)) all
+    (finding_is_standing s T client (xid_in payload)) x.answer in
+    record {
+      moment = r.0;
+      executed = r.1.0;
+      moment_is = r.1.1;
+      added = added_same s T (call_made client now payload reply);
+      have_calls = All-append HasCall T (added_for s T (call_made client now payload reply)) all
+          (have_calls_by s T client now payload reply place before after (finding s T client (xid_in payload)) bytes);
+    }
+
 -- ===== what the pass sees
 
 module _ (before at after : PassView) (kept kept' : PlainServerState) (client : ℕ) (m : Moment) (payload reply : List ℕ) (place : ℕ) (begins : Begins before.seen at.seen) (own : at.mine ≡ before.mine) (stood : StandsFor kept at.seen)
@@ -228,46 +233,51 @@ module _ (before at after : PassView) (kept kept' : PlainServerState) (client : 
         subst (AreOfCalls (setup_in first) (entries_alone T)) (sym (alone_append f.others added))
         (both_of_calls (setup_in first) (entries_alone T) (entries_alone f.others) (entries_alone added) f.of_calls
         (subst (λ (J : List Entry). AreOfCalls (setup_in first) J (entries_alone added)) (alone_append T f.others)
-        (subst (λ (l : List TaggedEntry). AreOfCalls (setup_in first) (entries_alone all) (entries_alone l)) (added_same (setup_in first) all client m payload reply)
+        (subst (λ (l : List TaggedEntry). AreOfCalls (setup_in first) (entries_alone all) (entries_alone l)) (added_same (setup_in first) all (call_made client m payload reply))
         (of_added first all client m payload reply place kept kept' bytes (answers (setup_in first) all f.stands.represents)))))
 
-    answers_at : after.seen ≡ history first (all ++ added) → after.mine ≡ before.mine ++ places_from (suc (length all)) (length added)
+    answers_at : HasNoCallTwice after.seen → after.seen ≡ history first (all ++ added) → after.mine ≡ before.mine ++ places_from (suc (length all)) (length added)
         → AnswersAt first T before after client m ran.0 payload reply place
-    answers_at seen mine_is = record {
+    answers_at once seen mine_is = record {
       others = f.others;
       begins = subst (Begins before.seen) f.is begins;
       executed = run_here.0;
       moment_is = run_here.1;
       seen = seen;
+      once = once;
       of_calls = of_calls_here;
       mine_is = mine_is;
     }
 
-    answers_none_at : added_for (setup_in first) all (call_made client m payload reply) ≡ [] → after.seen ≡ at.seen → after.mine ≡ at.mine
+    answers_none_at : ((s : Setup) (T : List TaggedEntry) → RepresentsTagged s T kept → added_for s T (call_made client m payload reply) ≡ []) → after.seen ≡ at.seen → after.mine ≡ at.mine
         → AnswersAt first T before after client m ran.0 payload reply place
-    answers_none_at none same same_own =
-        let nothing : [] ≡ added = sym none ∙ added_same (setup_in first) all client m payload reply in
-        answers_at (same ∙ f.is ∙ ap (history first) (sym (append-nil all) ∙ ap (λ (l : List TaggedEntry). all ++ l) nothing))
+    answers_none_at none_of same same_own =
+        let none : added_for (setup_in first) all (call_made client m payload reply) ≡ [] = none_of (setup_in first) all f.stands.represents in
+        let nothing : [] ≡ added = sym none ∙ added_same (setup_in first) all (call_made client m payload reply) in
+        answers_at (no_call_twice kept' after.seen (subst (StandsFor kept') (sym same) (stands_none kept kept' at.seen client m payload reply place bytes answers stood none_of)))
+        (same ∙ f.is ∙ ap (history first) (sym (append-nil all) ∙ ap (λ (l : List TaggedEntry). all ++ l) nothing))
         (same_own ∙ own ∙ sym (append-nil before.mine) ∙ ap (λ (l : List TaggedEntry). before.mine ++ places_from (suc (length all)) (length l)) nothing)
 
-    answers_one_at : IsOne (added_for (setup_in first) all (call_made client m payload reply)) → after.seen ≡ at.seen ++ entry_to_append client m payload reply ∷ []
+    answers_one_at : ((s : Setup) (T : List TaggedEntry) → RepresentsTagged s T kept → IsOne (added_for s T (call_made client m payload reply))) → after.seen ≡ at.seen ++ entry_to_append client m payload reply ∷ []
         → after.mine ≡ at.mine ++ length at.seen ∷ [] → AnswersAt first T before after client m ran.0 payload reply place
-    answers_one_at one more more_own =
+    answers_one_at one_of more more_own =
+        let one : IsOne (added_for (setup_in first) all (call_made client m payload reply)) = one_of (setup_in first) all f.stands.represents in
         let last : entry_to_append client m payload reply ∷ [] ≡ additions added = appended (setup_in first) all client m payload reply one in
-        let single : added ≡ one.0 ∷ [] = sym (added_same (setup_in first) all client m payload reply) ∙ one.1 in
+        let single : added ≡ one.0 ∷ [] = sym (added_same (setup_in first) all (call_made client m payload reply)) ∙ one.1 in
         let long : length at.seen ≡ suc (length all) = ap length f.is ∙ ap suc (length-map all (λ (t : TaggedEntry). Added t)) in
-        answers_at (more ∙ (λ j. f.is j ++ last j) ∙ history_append first all added)
+        answers_at (no_call_twice kept' after.seen (stands_one kept kept' at.seen client m payload reply place bytes answers after.seen stood one_of more))
+        (more ∙ (λ j. f.is j ++ last j) ∙ history_append first all added)
         (more_own ∙ (λ j. own j ++ long j ∷ []) ∙ ap (λ (l : List TaggedEntry). before.mine ++ places_from (suc (length all)) (length l)) (sym single))
 
   pub answers_none : ((s : Setup) (T : List TaggedEntry) → RepresentsTagged s T kept → added_for s T (call_made client m payload reply) ≡ []) → after.seen ≡ at.seen → after.mine ≡ at.mine
       → Answers before after client m payload reply place
   answers_none none same same_own =
-      (ran.0, λ first T is. answers_none_at first T is (none (setup_in first) (all first T is) (f first T is).stands.represents) same same_own)
+      (ran.0, λ first T is. answers_none_at first T is none same same_own)
 
   pub answers_one : ((s : Setup) (T : List TaggedEntry) → RepresentsTagged s T kept → IsOne (added_for s T (call_made client m payload reply)))
       → after.seen ≡ at.seen ++ entry_to_append client m payload reply ∷ [] → after.mine ≡ at.mine ++ length at.seen ∷ [] → Answers before after client m payload reply place
   answers_one one more more_own =
-      (ran.0, λ first T is. answers_one_at first T is (one (setup_in first) (all first T is) (f first T is).stands.represents) more more_own)
+      (ran.0, λ first T is. answers_one_at first T is one more more_own)
 
 -- ===== faults
 
@@ -287,6 +297,7 @@ stands_left e kept kept' h leaves (first, (T, (i, stands))) = (
         represents = tagged_left e (setup_in first) T kept kept' leaves stands.represents;
         of_calls = stands.of_calls;
         have_calls = stands.have_calls;
+        once = stands.once;
       },
     ),
   ),
@@ -307,6 +318,9 @@ old_standing New f s T top h is = absurd (new_not_old top (sym h ∙ is))
     new_not_old : (top : ℕ) → NewCall ≡ OldCall top → ⊥
     new_not_old top e = absurd cc
 
+pub old_calls : OldCallsAreOld
+old_calls s T client xid top old = old_standing (standing_for T client xid) (finding s T client xid) s T top (finding_is_standing s T client xid) old
+
 module _ (before at after : PassView) (kept : PlainServerState) (client : ℕ) (payload : List ℕ) (begins : Begins before.seen at.seen) (own : at.mine ≡ before.mine) (stood : StandsFor kept at.seen)
     (same : after.seen ≡ at.seen) (same_own : after.mine ≡ at.mine) where
   finds_old : (top : ℕ) → ((s : Setup) (T : List TaggedEntry) → RepresentsTagged s T kept → finding s T client (xid_in payload) ≡ OldCall top)
@@ -320,6 +334,7 @@ module _ (before at after : PassView) (kept : PlainServerState) (client : ℕ) (
         old = old_standing (standing_for all client (xid_in payload)) (finding (setup_in first) all client (xid_in payload)) (setup_in first) all top
             (finding_is_standing (setup_in first) all client (xid_in payload)) (old (setup_in first) all f.stands.represents);
         seen = same ∙ f.is;
+        once = no_call_twice kept after.seen (subst (StandsFor kept) (sym same) stood);
         of_calls = f.of_calls;
         mine_is = same_own ∙ own;
       }
@@ -365,6 +380,7 @@ unnumbered_executes before after m payload reply place (moment, answers) first J
       place_is = at ∙ sym long ∙ ap length journal;
       replied = (λ j. plain_reply s (sym journal j) ((at ∙ sym long) j) (sym now_is j) payload) ∙ a.executed.1;
       seen = a.seen ∙ sym (history_append first all new);
+      once = a.once;
       of_calls = subst (AreOfCalls s J) (alone_append a.others new ∙ ap (λ (l : List Entry). entries_alone a.others ++ l) alone)
           (subst (λ (l : List Entry). AreOfCalls s l (entries_alone (a.others ++ new))) i.journal a.of_calls);
       mine_is = a.mine_is ∙ (λ j. before.mine ++ places_from (suc (sym at j)) (count_is j));

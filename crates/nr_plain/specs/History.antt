@@ -18,7 +18,7 @@ use Rattle.nr_turnstile.specs.declared.turnstile.Pass.{Pass}
 use Rattle.nr_plain.specs.declared.history_entry.HistoryEntry.{HistoryEntry}
 use Rattle.nr_plain.specs.declared.history_entry.HistoryEntry.TheVariants.{Opened, Added}
 use Rattle.nr_reduce.specs.declared.mark.TaggedEntry.{TaggedEntry}
-use Rattle.nr_reduce.specs.NumberedJournal.{tagged, entries_alone}
+use Rattle.nr_reduce.specs.NumberedJournal.{HasNoEntryTwice, tagged, entries_alone}
 
 -- a server as it was opened, and its setup
 abbrev pub Opening : Type 0
@@ -44,6 +44,10 @@ pub record IsHistory (first : Opening) (J : List Entry) (h : List HistoryEntry) 
   pub entries : List TaggedEntry
   pub is : h ≡ history first entries
   pub journal : entries_alone entries ≡ J
+
+-- no two entries of its journal are of one call of a client that has a number
+abbrev pub HasNoCallTwice : List HistoryEntry → Type 0
+HasNoCallTwice h = (first : Opening) (T : List TaggedEntry) → h ≡ history first T → HasNoEntryTwice T
 
 -- The entry is that of a call after the journal J: the payload of the call is bytes, the plain server answers it at the
 -- end of J, and it adds this entry alone.
@@ -110,11 +114,12 @@ abbrev pub IsOpenedBy : PlainServerState → PassView → Type 0
 IsOpenedBy kept view = (first : Opening) × (first.value ≡ kept) × (view ≡ record { seen = history first []; mine = 0 ∷ [] })
 
 -- A pass had seen a server that was opened so and has this journal. It has seen the history again, and only others have
--- added to it, each time the entry of a call.
+-- added to it, each time the entry of a call. No call of a client with a number has two entries then, whoever sent it.
 pub record OthersAddedTo (first : Opening) (J : List Entry) (before after : PassView) : Type 0 where
   pub others : List Entry
   pub begins : Begins before.seen after.seen
   pub seen : IsHistory first (J ++ others) after.seen
+  pub once : HasNoCallTwice after.seen
   pub of_calls : AreOfCalls (setup_in first) J others
   pub mine_is : after.mine ≡ before.mine
 
@@ -123,7 +128,8 @@ OnlyOthersAdded before after = (first : Opening) (J : List Entry) → IsHistory 
 
 -- A call was executed under one turn of a pass. Others may have added entries to the journal before it. The reply is
 -- that of the plain server at the call's place, and the entry that the call adds, if any, is the last of the history,
--- and the pass's own. All entries that were added, by others and by this call, are those of calls.
+-- and the pass's own. All entries that were added, by others and by this call, are those of calls, and no call of a
+-- client with a number has two.
 pub record ExecutesAt (first : Opening) (J : List Entry) (before after : PassView) (client : ℕ) (m : Moment) (payload reply : List ℕ) (place : ℕ) : Type 0 where
   pub others : List Entry
   pub found : List HistoryEntry
@@ -132,6 +138,7 @@ pub record ExecutesAt (first : Opening) (J : List Entry) (before after : PassVie
   pub place_is : place ≡ length (J ++ others)
   pub replied : plain_reply (setup_in first) (J ++ others) place m payload ≡ Some reply
   pub seen : after.seen ≡ found ++ additions (entries_added client m payload reply)
+  pub once : HasNoCallTwice after.seen
   pub of_calls : AreOfCalls (setup_in first) J (others ++ entries_of_call m payload reply)
   pub mine_is : after.mine ≡ before.mine ++ places_from (suc place) (length (entries_of_call m payload reply))
 
@@ -173,11 +180,12 @@ own_places calls = flat_map own_places_of calls
 
 -- A pass had seen a server that was opened so and has the journal J, and has now seen more. These calls were answered
 -- in between, and what they added is the pass's own. All else that was added is of others. Each entry that was added is
--- that of a call.
+-- that of a call, and no call of a client with a number has two, if none had two before.
 pub record OverHistory (first : Opening) (J : List Entry) (before : PassView) (calls : List Answered) (after : PassView) : Type 0 where
   pub more : List Entry
   pub begins : Begins before.seen after.seen
   pub seen : IsHistory first (J ++ more) after.seen
+  pub once : HasNoCallTwice before.seen → HasNoCallTwice after.seen
   pub of_calls : AreOfCalls (setup_in first) J more
   pub placed : AllPlaced (setup_in first) (J ++ more) (length J) calls
   pub mine_is : after.mine ≡ before.mine ++ own_places calls

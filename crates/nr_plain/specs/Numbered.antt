@@ -20,7 +20,7 @@ use Rattle.nr_plain.specs.Replies.{Answer, call_by_cred, cred_refusal, program_c
 use Rattle.nr_plain.specs.ReplyLaws.{plain_server}
 use Rattle.nr_plain.specs.Stands.{PlainServerState, RepresentsJournal}
 use Rattle.nr_plain.specs.History.{AddsOne, entries_added, xid_in}
-use Rattle.nr_reduce.specs.NumberedJournal.{Standing, IsReplyOf, entries_alone, standing_for}
+use Rattle.nr_reduce.specs.NumberedJournal.{HasNoEntryTwice, Standing, IsExecutedBy, IsReplyOf, added_by, entries_alone, standing_for}
 use Rattle.nr_reduce.specs.NumberedJournal.Standing.{Old, Kept, New}
 use Rattle.nr_reduce.specs.declared.mark.TaggedEntry.{TaggedEntry}
 use Rattle.nr_plain.specs.declared.fault.Fault.{Fault}
@@ -126,6 +126,25 @@ LeavesServer (faults.NotCall at) before after = after ≡ before
 LeavesServer faults.Memory before after = IsSameButRoom before after
 LeavesServer (faults.Old top) before after = after ≡ before
 
+-- ---- What a call was answered, as a run says it
+
+-- A call that was answered after the entries T is executed as a run asks: a new one at the moment `now`, a kept one has the moment of its entry. What it
+-- adds is what it adds in a run, and the calls of all entries can still be encoded.
+pub record AnsweredAsRun (s : Setup) (T : List TaggedEntry) (client : ℕ) (now : Moment) (payload reply : List ℕ) (place : ℕ) : Type 0 where
+  pub moment : Moment
+  pub executed : IsExecutedBy (plain_server s) T (standing_for T client (xid_in payload)) moment payload place reply
+  pub moment_is : standing_for T client (xid_in payload) ≡ New → moment ≡ now
+  pub added : added_for s T (record { client = client; moment = now; payload = payload; reply = reply }) ≡ added_by (standing_for T client (xid_in payload)) (entries_added client now payload reply)
+  pub have_calls : All HasCall (T ++ added_for s T (record { client = client; moment = now; payload = payload; reply = reply }))
+
+abbrev pub AnswersAreThoseOfRuns : Type 0
+AnswersAreThoseOfRuns = (s : Setup) (T : List TaggedEntry) (client : ℕ) (now : Moment) (payload reply : List ℕ) (place : ℕ) (before after : PlainServerState) →
+    All HasCall T → IsBytes payload → AnswersFor s T client now payload reply place before after → AnsweredAsRun s T client now payload reply place
+
+-- a call that is found old is old in a run
+abbrev pub OldCallsAreOld : Type 0
+OldCallsAreOld = (s : Setup) (T : List TaggedEntry) (client xid top : ℕ) → finding s T client xid ≡ OldCall top → standing_for T client xid ≡ Old top
+
 -- ---- Procedures that change the tree
 
 -- a call of NFS version 3 whose procedure changes the tree (RFC 1813 section 3.3)
@@ -148,17 +167,10 @@ abbrev pub journal_after : Setup → List TaggedEntry → List NumberedCall → 
 journal_after s T [] = T
 journal_after s T (c ∷ calls) = journal_after s (T ++ added_for s T c) calls
 
--- no two entries have the same client other than 0 and the same xid
-abbrev pub IsOther : TaggedEntry → TaggedEntry → Type 0
-IsOther t u = u.client ≡ t.client → u.xid ≢ t.xid
-
-abbrev pub NoEntryTwice : List TaggedEntry → Type 0
-NoEntryTwice [] = ⊤
-NoEntryTwice (t ∷ T) = (t.client ≢ 0 → All (IsOther t) T) × NoEntryTwice T
-
--- Over every list of calls, whatever they are and whatever their replies say: so over those that a server answered, one after the other.
+-- No two entries are of one call of a client with a number, over every list of calls, whatever they are and whatever their replies say: so over those
+-- that a server answered, one after the other.
 abbrev pub ChangesOnce : Type 0
-ChangesOnce = (s : Setup) (calls : List NumberedCall) → NoEntryTwice (journal_after s [] calls)
+ChangesOnce = (s : Setup) (calls : List NumberedCall) → HasNoEntryTwice (journal_after s [] calls)
 
 -- ---- The reply of a kept call
 

@@ -4,7 +4,7 @@ use Rattle.nr_xdr.specs.Item.{IsBytes}
 use Rattle.nr_header.specs.WithinLimits.{ListsWithin}
 use Rattle.nr_header.specs.declared.header.ChunkLists.{ChunkLists}
 use Rattle.nr_rpc.specs.Reading.{call_of, reply_of, target_of, xid_of_call}
-use Rattle.nr_reduce.specs.KeepsCalls.{KeepsCalls}
+use Rattle.nr_reduce.specs.KeepsCalls.{FitsChanges, KeepsCalls}
 use Rattle.nr_reduce.specs.KeepsReplyLimits.{xid_of_reply, KeepsReplyLimits}
 use Rattle.nr_reduce.specs.PlainJournal.{PlainServer}
 use Rattle.nr_outside.specs.declared.moment.Moment.{Moment}
@@ -75,3 +75,7 @@ ServerIsPlain = (s : Setup) → IsSane s.tree → KeepsReplyLimits (plain_server
 -- It keeps so much of a call that adds an entry that the call which is made of the entry has the same reply.
 abbrev pub ServerKeepsCalls : Type 0
 ServerKeepsCalls = (s : Setup) → KeepsCalls (λ J m payload. plain_reply s J (length J) m payload) entries_of_call
+
+-- The reply to the call of an entry can be sent back to each call that would add an entry by it.
+abbrev pub ServerFitsChanges : Type 0
+ServerFitsChanges = (s : Setup) → FitsChanges (plain_server s)

@@ -4,21 +4,23 @@ use Rattle.nr_outside.specs.declared.moment.Moment.{Moment}
 use Rattle.nr_rpc.specs.Reading.{call_of}
 use Rattle.nr_turnstile.specs.Rule.{Begins, places_from}
 use Rattle.nr_reduce.specs.declared.mark.TaggedEntry.{TaggedEntry}
-use Rattle.nr_reduce.specs.NumberedJournal.{Standing, IsExecutedBy, added_by, entries_alone, standing_for}
+use Rattle.nr_reduce.specs.NumberedJournal.{HasNoEntryTwice, Standing, IsExecutedBy, added_by, entries_alone, standing_for}
 use Rattle.nr_reduce.specs.NumberedJournal.Standing.{Old, New}
 use Rattle.nr_plain.specs.Stands.{PlainServerState}
 use Rattle.nr_plain.specs.Numbered.{HasCall, RepresentsTagged}
 use Rattle.nr_plain.specs.ReplyLaws.{plain_server}
-use Rattle.nr_plain.specs.History.{Opening, AreOfCalls, PassView, entries_added, history, setup_in, xid_in}
+use Rattle.nr_plain.specs.History.{HasNoCallTwice, Opening, AreOfCalls, PassView, entries_added, history, setup_in, xid_in}
 use Rattle.nr_plain.specs.declared.history_entry.HistoryEntry.{HistoryEntry}
 use Rattle.nr_plain.specs.declared.fault.Fault.{Fault}
 use Rattle.nr_plain.specs.declared.fault.Fault.TheVariants as faults
 
--- A server that was opened so stands for these entries. Each is that of a call, which can be encoded.
+-- A server that was opened so stands for these entries. Each is that of a call, which can be encoded. No two are of one call of a client that has a
+-- number.
 pub record StandsAfter (first : Opening) (T : List TaggedEntry) (kept : PlainServerState) : Type 0 where
   pub represents : RepresentsTagged (setup_in first) T kept
   pub of_calls : AreOfCalls (setup_in first) [] (entries_alone T)
   pub have_calls : All HasCall T
+  pub once : HasNoEntryTwice T
 
 abbrev pub StandsFor : PlainServerState → List HistoryEntry → Type 0
 StandsFor kept h = (first : Opening) × ((T : List TaggedEntry) × ((h ≡ history first T) × StandsAfter first T kept))
@@ -31,13 +33,15 @@ added_to T client m payload reply = added_by (standing_for T client (xid_in payl
 
 -- A call of a client was answered under one turn of a pass, which had seen the entries T. Other passes may have added entries before it. The call is
 -- executed as in a run: a new one at the moment `now`; a kept one has the moment, the place and the reply of its entry. What it adds is the last of
--- the history, and the pass's own. All entries that were added, by others and by this call, are those of calls.
+-- the history, and the pass's own. All entries that were added, by others and by this call, are those of calls. No call of a client with a number has
+-- two entries then, whoever sent it.
 pub record AnswersAt (first : Opening) (T : List TaggedEntry) (before after : PassView) (client : ℕ) (now moment : Moment) (payload reply : List ℕ) (place : ℕ) : Type 0 where
   pub others : List TaggedEntry
   pub begins : Begins before.seen (history first (T ++ others))
   pub executed : IsExecutedBy (plain_server (setup_in first)) (T ++ others) (standing_for (T ++ others) client (xid_in payload)) moment payload place reply
   pub moment_is : standing_for (T ++ others) client (xid_in payload) ≡ New → moment ≡ now
   pub seen : after.seen ≡ history first ((T ++ others) ++ added_to (T ++ others) client now payload reply)
+  pub once : HasNoCallTwice after.seen
   pub of_calls : AreOfCalls (setup_in first) (entries_alone T) (entries_alone (others ++ added_to (T ++ others) client now payload reply))
   pub mine_is : after.mine ≡ before.mine ++ places_from (suc (length (T ++ others))) (length (added_to (T ++ others) client now payload reply))
 
@@ -51,6 +55,7 @@ pub record FindsOldAt (first : Opening) (T : List TaggedEntry) (before after : P
   pub begins : Begins before.seen after.seen
   pub old : standing_for (T ++ others) client xid ≡ Old top
   pub seen : after.seen ≡ history first (T ++ others)
+  pub once : HasNoCallTwice after.seen
   pub of_calls : AreOfCalls (setup_in first) (entries_alone T) (entries_alone others)
   pub mine_is : after.mine ≡ before.mine
 

@@ -1,6 +1,6 @@
 //! Laws of replies: whose they are, and how long they may be.
 
-ghost use Rattle.nr_plain.specs.ReplyLaws.{RepliesBeginWithTheXid, PlacedRepliesBeginWithTheXid, CallsAloneHaveReplies, RepliesAreWithinTheirLimit, ChangesAreShort, ChangesFitEveryOffer, PlacedChangesFitEveryOffer, AutoOffersHoldTheirReplies, ServerIsPlain, ServerKeepsCalls};
+ghost use Rattle.nr_plain.specs.ReplyLaws.{RepliesBeginWithTheXid, PlacedRepliesBeginWithTheXid, CallsAloneHaveReplies, RepliesAreWithinTheirLimit, ChangesAreShort, ChangesFitEveryOffer, PlacedChangesFitEveryOffer, AutoOffersHoldTheirReplies, ServerFitsChanges, ServerIsPlain, ServerKeepsCalls};
 
 /// A reply begins with a reply head whose xid is that of its call (RFC 5531 section 9), and there is one if and only if
 /// the payload begins with a call head.
@@ -38,4 +38,10 @@ pub fn server_is_plain()
 /// The call that is made of an entry has the reply of the call that added it.
 pub fn server_keeps_calls()
     ensures { ServerKeepsCalls }
+{}
+
+/// The reply to the call of an entry can be sent back to each call that would add an entry by it: also to another call,
+/// if a client sends that under the xid of the entry.
+pub fn server_fits_changes()
+    ensures { ServerFitsChanges }
 {}

@@ -46,8 +46,10 @@ pub use journal_laws::{
 };
 pub use laws::{
     auto_offers_hold_their_replies, changes_fit_every_offer, replies_are_within_their_limit,
-    replies_begin_with_the_xid, server_is_plain, server_keeps_calls,
+    replies_begin_with_the_xid, server_fits_changes, server_is_plain, server_keeps_calls,
 };
-pub use numbered::{changes_once, finding_is_standing, first_replies_are_kept};
+pub use numbered::{
+    answers_are_those_of_runs, changes_once, finding_is_standing, first_replies_are_kept,
+};
 pub use server::{Reply, Server};
 pub use turns::{execute, execute_for, journal_len, share};

@@ -7,7 +7,7 @@ ghost use Rattle.nr_rpc.specs.Reading.{call_of, head_xid};
 ghost use Rattle.nr_plain.specs.Setup.{Setup};
 ghost use Rattle.nr_plain.specs.History.{xid_in};
 ghost use Rattle.nr_rpc.specs.declared.head.CallHead.{CallHead};
-ghost use Rattle.nr_plain.specs.Numbered.{AnswersFor, ChangesOnce, EntriesHaveCalls, FindingIsStanding, FirstRepliesAreKept, IsNumberedCause, IsSameButRoom, LeavesServer, RepresentsTagged, is_changing, may_change, may_change_by};
+ghost use Rattle.nr_plain.specs.Numbered.{AnswersAreThoseOfRuns, AnswersFor, ChangesOnce, EntriesHaveCalls, FindingIsStanding, FirstRepliesAreKept, IsNumberedCause, IsSameButRoom, LeavesServer, OldCallsAreOld, RepresentsTagged, is_changing, may_change, may_change_by};
 ghost use Rattle.nr_plain.specs.Journal.{nfs_procedure_of};
 ghost use Rattle.nr_plain.specs.ReplySizes.{any_reply_max};
 ghost use Rattle.nr_plain.specs.Stands.{IsCause};
@@ -183,4 +183,10 @@ pub fn first_replies_are_kept()
 pub fn finding_is_standing()
     ensures standing { FindingIsStanding }
     ensures calls { EntriesHaveCalls }
+{}
+
+/// What [`Server::execute_for`] answers to a call is what a run asks of it, and a call that it finds old is old in a run.
+pub fn answers_are_those_of_runs()
+    ensures answered { AnswersAreThoseOfRuns }
+    ensures old { OldCallsAreOld }
 {}

@@ -28,7 +28,7 @@ use Rattle.nr_reduce.specs.ClientState.{WaitingCall, ClientState, first_of, call
 use Rattle.nr_reduce.specs.Client.{client_rules, client_end, client_output}
 use Rattle.nr_reduce.specs.Run.{client}
 use Rattle.nr_reduce.specs.Credits.{credits_granted}
-use Rattle.nr_reduce.specs.SubmitAnswer.{unless_spent, unless_far_by}
+use Rattle.nr_reduce.specs.SubmitAnswer.{submit_answer, unless_spent, unless_far_by}
 use Rattle.nr_reduce.specs.KeptClient.{KeptClient, ClientKeeps, kept_submitted}
 use Rattle.nr_reduce.specs.Standing.{input_events}
 use Rattle.nr_reduce.specs.StandingLaws.{GoesOn, least_kept, kept_answer_by_plan, kept_answer_if}

@@ -112,7 +112,7 @@ submit_is_a_mark h call form plan none number is opened link run s = record {
 pub wrote_quiet : (link : ℕ) (run : List Mark) (bytes : List ℕ) → IsQuiet link run (marks.Wrote link Initiator bytes)
 wrote_quiet link run bytes = (no_frames_if _ (QueueWritten (length bytes) ∷ []) (tt, tt), none_if _ (QueueWritten (length bytes) ∷ []) (tt, tt))
 
-wrote_own : (link : ℕ) (bytes : List ℕ) → is_counted link (marks.Wrote link Initiator bytes) ≡ has_bytes bytes
+pub wrote_own : (link : ℕ) (bytes : List ℕ) → is_counted link (marks.Wrote link Initiator bytes) ≡ has_bytes bytes
 wrote_own link bytes = ap (λ (b : Bool). b && has_bytes bytes) (itself link)
 
 pub drain_marks : (h : RequesterSide) (n : ℕ) → (after_drain n h).marks ≡ marks_if (has_bytes (take n (queue_of h.state))) h.marks
@@ -174,7 +174,7 @@ kept_out before after lives out =
     (λ i. record (kept_client before.state) { ended = lives i; memory = sym out.memory i; up_max = (sym out.agreed i).up; down_max = (sym out.agreed i).down; invalidates = (sym out.agreed i).invalidates; number = (sym out.terms i).number; agreed = sym out.earlier i })
     ∙ (λ i. record (kept_client (sym out.same i)) { ended = None; memory = after.state.side.memory })
 
-same_answers : (opened : LinkParameters) (es : List RunEvent) (due : ℕ → Bool) (asked : List AcceptedCall) (r r2 : RequesterState) → KeepsAnswers opened es due asked r → r2.answered ≡ r.answered → r2.outstanding ≡ r.outstanding → r2.next_xid ≡ r.next_xid → KeepsAnswers opened es due asked r2
+pub same_answers : (opened : LinkParameters) (es : List RunEvent) (due : ℕ → Bool) (asked : List AcceptedCall) (r r2 : RequesterState) → KeepsAnswers opened es due asked r → r2.answered ≡ r.answered → r2.outstanding ≡ r.outstanding → r2.next_xid ≡ r.next_xid → KeepsAnswers opened es due asked r2
 same_answers opened es due asked r r2 k answered outstanding next =
     subst (λ (xs : List RunEvent). KeepsAnswers opened xs due asked r2) (append-nil es)
     (subst (λ (xs : List AcceptedCall). KeepsAnswers opened (es ++ []) due xs r2) (append-nil asked)
@@ -207,11 +207,11 @@ piece_runs_out h after piece lives out more opened link run s =
 
 -- ---- A revoke
 
-revoke_quiet : (link : ℕ) (run : List Mark) (xid : ℕ) (bytes : List ℕ) → IsQuiet link run (marks.Revoke link xid bytes)
+pub revoke_quiet : (link : ℕ) (run : List Mark) (xid : ℕ) (bytes : List ℕ) → IsQuiet link run (marks.Revoke link xid bytes)
 revoke_quiet link run xid bytes =
     (let events : List RunEvent = MemoryRevoked (length (bytes_received link Initiator run)) xid ∷ [] in (no_frames_if _ events (tt, tt), none_if _ events (tt, tt)))
 
-revoke_given : (h : RequesterSide) (xid : ℕ) → given_state revoked_if xid h.state (after_revoke h xid).state
+pub revoke_given : (h : RequesterSide) (xid : ℕ) → given_state revoked_if xid h.state (after_revoke h xid).state
 unfolding after_revoke
 revoke_given h xid = (refl, (refl, refl))
 
@@ -256,7 +256,7 @@ revoke_stays_out opened link h stopped run xid bytes lt out =
 
 -- ---- An outcome that is handed over or given up
 
-forget_given : (h : RequesterSide) (xid : ℕ) → given_state forgotten_if xid h.state (after_forget h xid).state
+pub forget_given : (h : RequesterSide) (xid : ℕ) → given_state forgotten_if xid h.state (after_forget h xid).state
 unfolding after_forget
 forget_given h xid = (refl, (refl, refl))
 

@@ -150,7 +150,7 @@ buffers_small m (Some a) None (Some c) h = (let x = buffer_len_is m a h.1.0 in l
 buffers_small m (Some a) (Some b) None h = (let x = buffer_len_is m a h.1.0 in let y = buffer_len_is m b h.1.1.1.0 in omega (arith, x, y))
 buffers_small m (Some a) (Some b) (Some c) h = (let x = buffer_len_is m a h.1.0 in let y = buffer_len_is m b h.1.1.1.0 in let z = buffer_len_is m c h.1.1.1.1.1.0 in omega (arith, x, y, z))
 
-call_small : (b : Bool) (stored : Option Call) (call : Call) → cond b None stored ≡ Some call → call_bytes call ≤ stored_bytes stored
+pub call_small : (b : Bool) (stored : Option Call) (call : Call) → cond b None stored ≡ Some call → call_bytes call ≤ stored_bytes stored
 call_small true stored call is = absurd cc
 call_small false None call is = absurd cc
 call_small false (Some x) call is = (let same : call_bytes x ≡ call_bytes call = ap (λ (o : Option Call). stored_bytes o) is in omega (arith, same))

@@ -72,7 +72,7 @@ filter_append p (x ∷ xs) ys = by (p x) (filter_append p xs ys)
     by true rest = λ i. x ∷ rest i
     by false rest = rest
 
-without_completed : (xid : ℕ) (answers : List AnsweredCall) → map completed_of (without_answer xid answers) ≡ filter (λ c. not (eqb c.xid xid)) (map completed_of answers)
+pub without_completed : (xid : ℕ) (answers : List AnsweredCall) → map completed_of (without_answer xid answers) ≡ filter (λ c. not (eqb c.xid xid)) (map completed_of answers)
 without_completed xid [] = refl
 without_completed xid (a ∷ answers) = by (not (eqb a.xid xid)) (without_completed xid answers)
   where

@@ -33,6 +33,15 @@ counted_more link run mark n own is so_far = by own (count_more (is_counted link
     by true more = omega (arith, more, so_far)
     by false more = omega (arith, more, so_far)
 
+-- beside the marks that were counted before the link began
+pub counted_beside : (earlier link : ℕ) (run : List Mark) (mark : Mark) (n : ℕ) (own : Bool) → is_counted link mark ≡ own → n ≡ min (earlier + marks_of link run) marks_max → marks_if own n ≡ min (earlier + marks_of link (run ++ mark ∷ [])) marks_max
+unfolding marks_of
+counted_beside earlier link run mark n own is so_far = by own (count_more (is_counted link) run mark ∙ ap (λ (b : Bool). length (filter (is_counted link) run) + length (cond b (mark ∷ []) [])) is)
+  where
+    by : (b : Bool) → length (filter (is_counted link) (run ++ mark ∷ [])) ≡ length (filter (is_counted link) run) + length (cond b (mark ∷ []) []) → marks_if b n ≡ min (earlier + length (filter (is_counted link) (run ++ mark ∷ []))) marks_max
+    by true more = omega (arith, more, so_far)
+    by false more = omega (arith, more, so_far)
+
 pub same_count : (link : ℕ) (run : List Mark) (mark : Mark) (n : ℕ) → is_counted link mark ≡ false → n ≡ counted_marks link run → n ≡ counted_marks link (run ++ mark ∷ [])
 same_count link run mark n is so_far = counted_more link run mark n false is so_far
 

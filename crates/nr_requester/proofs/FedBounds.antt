@@ -1,11 +1,13 @@
 -- What a step on a piece leaves within its bounds.
-use Rattle.std.proofs.Common.{◌≡◌, ℕ, ◌≤◌, ◌⊎◌, inl, inr, Bool, true, false, cond, eqb, List, [], length, Option, None, Some, Result, Ok, Err, refl, sym, ap, subst, ◌∙◌, arith}
+use Rattle.std.proofs.Common.{◌≡◌, ℕ, ◌≤◌, ◌⊎◌, inl, inr, Bool, true, false, cond, eqb, List, [], length, Option, None, Some, Result, Ok, Err, refl, sym, ap, subst, ◌∙◌, arith, ◌+◌}
 use Rattle.std.specs.Prelude.{is_some}
 use Rattle.nr_regions.specs.RegisteredMemory.{Region, RegisteredMemory, after_place}
 use Rattle.nr_regions.specs.Table.{IsTotal}
 use Rattle.std.specs.FinMap.{FinMap}
 use Rattle.std.specs.Ordering.{nat_cmp}
 use Rattle.nr_wire.specs.Constants.{OPCODE_READ_RESPONSE, OPCODE_READ_REQUEST}
+use Rattle.nr_wire.specs.declared.hello.Side.{Side}
+use Rattle.nr_wire.specs.declared.hello.Side.TheVariants.{Initiator, Responder}
 use Rattle.nr_wire.specs.declared.stream.Awaited.{Awaited}
 use Rattle.nr_wire.specs.declared.stream.Awaited.TheVariants.{Hello as HelloFrom, Fpdu}
 use Rattle.nr_wire.specs.Hello.{Hello, hello_of}
@@ -18,13 +20,13 @@ use Rattle.nr_link.specs.ReceiveState.{ReadRequest, read_request_in}
 use Rattle.nr_endpoint.specs.EndpointState.{EndpointState}
 use Rattle.nr_endpoint.specs.SendQueue.{SendQueue, with_end}
 use Rattle.nr_endpoint.specs.LinkState.{LinkState, LinkSide, has_ended}
-use Rattle.nr_endpoint.specs.Judging.{segment_end, next_frame, next_segment, with_end_of, with_frame, with_segment_by, with_fpdu, with_peer_hello, with_effect, with_read_request, with_read_response}
+use Rattle.nr_endpoint.specs.Judging.{segment_end, next_frame, next_segment, with_end_of, with_frame, with_segment_by, with_fpdu, with_peer_hello, with_hello_from, with_other_sizes, has_other_sizes, with_effect, with_read_request, with_read_response}
 use Rattle.nr_endpoint.specs.Calls.{after_call}
 use Rattle.nr_endpoint.specs.Calls.Call.{FeedOne, NextEvent, Post, Stop, OutOfMemory}
 use Rattle.nr_endpoint.proofs.AlongFrames.{feed_one_keeps}
 use Rattle.nr_requester.specs.declared.answer.AnsweredCall.{AnsweredCall}
 use Rattle.nr_requester.specs.declared.outstanding.OutstandingCall.{OutstandingCall}
-use Rattle.nr_requester.specs.HeldBytes.{QueueFits, region_size, IsCount, AreRisingBy, send_of, in_bytes, claims_total, unsent, IsBounded}
+use Rattle.nr_requester.specs.HeldBytes.{last_max, QueueFits, region_size, IsCount, AreRisingBy, send_of, in_bytes, claims_total, unsent, IsBounded}
 use Rattle.nr_requester.specs.AfterPiece.{dead_memory}
 use Rattle.nr_requester.specs.Buffers.{with_memory}
 use Rattle.nr_requester.specs.Fed.{StopsDead}
@@ -69,8 +71,17 @@ unfolding with_peer_hello
 hello_sends q s f (Ok hello) h = h
 hello_sends q s f (Err reason) h = end_sends q s (ends.Bad f.at reason) h
 
+sizes_sends : (q : SendQueue) (s : LinkState) (f : Frame) (hello : Hello) (b : Bool) → SameSends q s.send_queue → SameSends q (cond b (with_other_sizes f s) (with_peer_hello f (Ok hello) s)).send_queue
+sizes_sends q s f hello true h = h
+sizes_sends q s f hello false h = hello_sends q s f (Ok hello) h
+
+hello_from_sends : (q : SendQueue) (side : Side) (s : LinkState) (f : Frame) (r : Result Hello ℕ) → SameSends q s.send_queue → SameSends q (with_hello_from side f r s).send_queue
+hello_from_sends q Initiator s f r h = hello_sends q s f r h
+hello_from_sends q Responder s f (Err reason) h = hello_sends q s f (Err reason) h
+hello_from_sends q Responder s f (Ok hello) h = sizes_sends q s f hello (has_other_sizes Responder s hello.private) h
+
 frame_sends : (q : SendQueue) (a : Awaited) (s : LinkState) (frame : List ℕ) → has_ended s ≡ false → SameSends q s.send_queue → SameSends q (with_frame s a frame).send_queue
-frame_sends q (HelloFrom side) s frame live h = hello_sends q s (next_frame s frame) (hello_of side frame) h
+frame_sends q (HelloFrom side) s frame live h = hello_from_sends q side s (next_frame s frame) (hello_of side frame) h
 frame_sends q Fpdu s frame live h = fpdu_sends q s (next_frame s frame) (next_segment s frame) h
 
 fed_sends : (link : LinkSide) (piece : List ℕ) → SameSends link.state.send_queue (after_call link (FeedOne piece)).state.send_queue
@@ -179,7 +190,7 @@ module _ (len sent sends next : ℕ) (calls : List OutstandingCall) (answers : L
           receive = b.0.link.receive;
           up = b.0.link.up;
           down = b.0.link.down;
-          hello = b.0.link.hello;
+          hello = (let short = b.0.link.hello in let none = ap last_max (going lives) in omega (arith, short, none));
           queue = ended_fits s.send_queue true (subst (λ (x : Bool). QueueFits x s.send_queue) (going lives) b.0.link.queue);
           responses = b.0.link.responses;
           messages = b.0.link.messages;

@@ -9,7 +9,7 @@ use Rattle.nr_reduce.specs.Run.{client}
 use Rattle.nr_requester.specs.declared.answer.AnsweredCall.{AnsweredCall}
 use Rattle.nr_requester.specs.RequesterState.{RequesterSide}
 use Rattle.nr_requester.specs.KeptAnswers.{is_due, completed_of}
-use Rattle.nr_requester.specs.Standing.{AnswersAfter}
+use Rattle.nr_requester.specs.Standing.{AnswersWith}
 use Rattle.nr_requester.specs.OpenCalls.{found_answer}
 use Rattle.nr_requester.specs.Laws.{FirstIsDueFirst, FirstOut}
 use Rattle.nr_requester.proofs.AnswerSteps.{filter_append}
@@ -49,7 +49,7 @@ first_of x (b ∷ answers) a e = by (eqb b.xid x) (first_of x answers a) e
     by true rest f = (answers_of x answers, ap (λ (c : AnsweredCall). completed_of c ∷ answers_of x answers) (ap (or_answer b) f))
     by false rest f = rest f
 
-module _ (opened : LinkParameters) (link : ℕ) (h : RequesterSide) (run : List Mark) (k : AnswersAfter opened link h run) where
+module _ (known : List AcceptedCall) (opened : LinkParameters) (link : ℕ) (h : RequesterSide) (run : List Mark) (k : AnswersWith known opened link h run) where
   abbrev outs : List CompletedCall
   outs = (client opened link run).state.outcomes
 
@@ -82,21 +82,21 @@ module _ (opened : LinkParameters) (link : ℕ) (h : RequesterSide) (run : List 
       ∙ ap (λ (cs : List CompletedCall). cs ++ filter due (flat_map (outcomes_of_call outs) calls)) (of_call c ∙ none_of c.xid h.state.answered none.0)
       ∙ none_due calls none.1
 
-first_by : (opened : LinkParameters) (link : ℕ) (h : RequesterSide) (run : List Mark) (before after : List AcceptedCall) (call : AcceptedCall) (a : AnsweredCall) → AnswersAfter opened link h run → accepted_calls link run ≡ before ++ call ∷ after →
+pub first_by : (known : List AcceptedCall) (opened : LinkParameters) (link : ℕ) (h : RequesterSide) (run : List Mark) (before after : List AcceptedCall) (call : AcceptedCall) (a : AnsweredCall) → AnswersWith known opened link h run → accepted_calls link run ≡ before ++ call ∷ after →
     AllByRecursion (λ (c : AcceptedCall). found_answer c.xid h.state ≡ None) before → found_answer call.xid h.state ≡ Some a → (rest : List CompletedCall) × (outcomes_due opened link run ≡ completed_of a ∷ rest)
 unfolding outcomes_due
-first_by opened link h run before after call a k is none there =
-    let first = first_due opened link h run k before after call a none there in (
+first_by known opened link h run before after call a k is none there =
+    let first = first_due known opened link h run k before after call a none there in (
       first.0,
       ap (λ (cs : List AcceptedCall). filter (λ (c : CompletedCall). is_due link run c.xid) (flat_map (outcomes_of_call (client opened link run).state.outcomes) cs)) is ∙ first.1,
     )
 
-none_by : (opened : LinkParameters) (link : ℕ) (h : RequesterSide) (run : List Mark) → AnswersAfter opened link h run → AllByRecursion (λ (c : AcceptedCall). found_answer c.xid h.state ≡ None) (accepted_calls link run) → outcomes_due opened link run ≡ []
+pub none_by : (known : List AcceptedCall) (opened : LinkParameters) (link : ℕ) (h : RequesterSide) (run : List Mark) → AnswersWith known opened link h run → AllByRecursion (λ (c : AcceptedCall). found_answer c.xid h.state ≡ None) (accepted_calls link run) → outcomes_due opened link run ≡ []
 unfolding outcomes_due
-none_by opened link h run k none = none_due opened link h run k (accepted_calls link run) none
+none_by known opened link h run k none = none_due known opened link h run k (accepted_calls link run) none
 
 pub first_is_due_first : FirstIsDueFirst
-first_is_due_first opened link h run s = (λ before after call a is none there. first_by opened link h run before after call a s.answers is none there, λ none. none_by opened link h run s.answers none)
+first_is_due_first opened link h run s = (λ before after call a is none there. first_by [] opened link h run before after call a s.answers is none there, λ none. none_by [] opened link h run s.answers none)
 
 pub first_out : FirstOut
-first_out opened link h stopped run out = (λ before after call a is none there. first_by opened link h run before after call a out.answers is none there, λ none. none_by opened link h run out.answers none)
+first_out opened link h stopped run out = (λ before after call a is none there. first_by [] opened link h run before after call a out.answers is none there, λ none. none_by [] opened link h run out.answers none)

@@ -1,5 +1,5 @@
 -- A frame of the peer leaves the vectors of a side within their bounds.
-use Rattle.std.proofs.Common.{◌≡◌, ℕ, ◌≤◌, Bool, true, false, cond, eqb, List, [], ◌∷◌, ◌++◌, length, take, drop, Option, None, Some, Result, Ok, Err, refl, sym, ap, subst, ◌∙◌, inl, inr, arith, length-append}
+use Rattle.std.proofs.Common.{◌≡◌, ℕ, ◌≤◌, Bool, true, false, cond, eqb, List, [], ◌∷◌, ◌++◌, length, take, drop, Option, None, Some, Result, Ok, Err, refl, sym, ap, subst, ◌∙◌, inl, inr, arith, length-append, ◌+◌}
 use Rattle.std.proofs.lemmas.Bool.{eqb-true, cases_eq}
 use Rattle.std.proofs.lemmas.List.{length-take, length-drop}
 use Rattle.std.specs.List.{AllByRecursion}
@@ -22,25 +22,26 @@ use Rattle.nr_link.specs.declared.end.End.{End}
 use Rattle.nr_link.specs.declared.end.End.TheVariants as ends
 use Rattle.nr_link.specs.Frames.{Frame}
 use Rattle.nr_link.specs.Limits.{open_reads_max}
-use Rattle.nr_link.specs.Output.{read_response}
+use Rattle.nr_link.specs.Output.{read_response, terminate_message}
+use Rattle.nr_link.specs.Reasons.{REASON_SIZES}
 use Rattle.nr_link.specs.ReceiveState.{read_request_in}
 use Rattle.nr_link.specs.Ending.{rejection, kind_of}
-use Rattle.nr_endpoint.specs.SendQueue.{SendQueue, with_end}
+use Rattle.nr_endpoint.specs.SendQueue.{SendQueue, with_hello, with_end}
 use Rattle.nr_endpoint.specs.ReceiveQueue.{with_segment, with_read_done}
 use Rattle.nr_link.specs.Agreement.{IsSendLimit}
 use Rattle.nr_link.proofs.Agreements.{agreements_bounded}
 use Rattle.nr_endpoint.specs.Hellos.{own_private, side_agreement}
 use Rattle.nr_endpoint.specs.LinkState.{LinkState, LinkSide, has_ended}
-use Rattle.nr_endpoint.specs.Judging.{segment_end, next_frame, next_segment, with_end_of, with_frame, with_segment_by, with_fpdu, with_peer_hello, with_effect, with_read_request, with_read_response, reply_hello, fetch_access}
+use Rattle.nr_endpoint.specs.Judging.{segment_end, next_frame, next_segment, with_end_of, with_frame, with_segment_by, with_fpdu, with_peer_hello, with_hello_from, with_other_sizes, has_other_sizes, with_effect, with_read_request, with_read_response, reply_hello, fetch_access}
 use Rattle.nr_endpoint.specs.SegmentEnds.{RequestIsFine, denied_if, tagged_end}
 use Rattle.nr_endpoint.specs.Calls.{after_call}
 use Rattle.nr_endpoint.specs.Calls.Call.{FeedOne}
 use Rattle.nr_endpoint.proofs.AlongFrames.{feed_one_keeps}
 use Rattle.nr_endpoint.proofs.Alive.{alive_tagged, alive_request}
-use Rattle.nr_requester.specs.HeldBytes.{region_max, response_max, FitsSend, QueueFits, RegionsFit, LinkFits, region_size, RegionsHave}
+use Rattle.nr_requester.specs.HeldBytes.{region_max, response_max, last_max, FitsSend, QueueFits, RegionsFit, LinkFits, region_size, RegionsHave}
 use Rattle.nr_endpoint.specs.OutputSizes.{send_frames_max, hello_max}
-use Rattle.nr_endpoint.proofs.OutputSizes.{end_within}
-use Rattle.nr_requester.proofs.OutputBounds.{response_fits}
+use Rattle.nr_endpoint.proofs.OutputSizes.{end_within, terminate_len}
+use Rattle.nr_requester.proofs.OutputBounds.{response_fits, ended_fits}
 
 -- both: its vectors are within their bounds, and its regions have this number together
 abbrev pub Fits : (size : ℕ → ℕ) (len total : ℕ) → LinkState → Type 0
@@ -61,7 +62,7 @@ end_fits size s end len total live f = (
     receive = f.0.receive;
     up = f.0.up;
     down = f.0.down;
-    hello = omega (arith, f.0.hello, length-append s.send_queue.hello (rejection s.side end), no_rejection s.side end f.0.side);
+    hello = (let none = ap last_max live in omega (arith, f.0.hello, none, length-append s.send_queue.hello (rejection s.side end), no_rejection s.side end f.0.side));
     queue = end_within send_frames_max response_max 0 0 s.side end s.send_queue (subst (λ (b : Bool). QueueFits b s.send_queue) live f.0.queue);
     responses = f.0.responses;
     messages = f.0.messages;
@@ -152,18 +153,18 @@ reached_short m access fit = by (live_region m access.stag) refl
     by None is = omega (arith, length-take {A = ℕ} access.len (drop access.to []), length-drop {A = ℕ} access.to [])
     by (Some region) is = omega (arith, length-take access.len (drop access.to region.buf), length-drop access.to region.buf, fit access.stag region (live_parts m access.stag region is).1)
 
--- the queue after a Read Request
-record QueueLeft (q : SendQueue) : Type 0 where
-  pub hello : length q.hello ≤ hello_max
+-- the queue after a Read Request; its hello stays
+record QueueLeft (most : ℕ) (q : SendQueue) : Type 0 where
+  pub hello : length q.hello ≤ most
   pub queue : QueueFits false q
   pub responses : length q.response_ends ≤ open_reads_max
   pub messages : AllByRecursion FitsSend q.held
 
-answered_fits : (s : LinkState) (f : Frame) (last : Bool) (opcode w queue msn offset : ℕ) (payload : List ℕ) (b : Bool) → eqb opcode OPCODE_READ_REQUEST ≡ b → f.at ≡ s.place →
-    segment_end s f (Untagged last opcode w queue msn offset payload) ≡ None → RegionsFit s.memory → QueueLeft s.send_queue →
-    QueueLeft (with_read_request (cond b (Some (read_request_in payload)) None) s.memory s.send_queue)
-answered_fits s f last opcode w queue msn offset payload false is at lives fit left = left
-answered_fits s f last opcode w queue msn offset payload true is at lives fit left =
+answered_fits : (most : ℕ) (s : LinkState) (f : Frame) (last : Bool) (opcode w queue msn offset : ℕ) (payload : List ℕ) (b : Bool) → eqb opcode OPCODE_READ_REQUEST ≡ b → f.at ≡ s.place →
+    segment_end s f (Untagged last opcode w queue msn offset payload) ≡ None → RegionsFit s.memory → QueueLeft most s.send_queue →
+    QueueLeft most (with_read_request (cond b (Some (read_request_in payload)) None) s.memory s.send_queue)
+answered_fits most s f last opcode w queue msn offset payload false is at lives fit left = left
+answered_fits most s f last opcode w queue msn offset payload true is at lives fit left =
     let same : opcode ≡ OPCODE_READ_REQUEST = eqb-true opcode OPCODE_READ_REQUEST is in
     let goes : segment_end s f (Untagged last OPCODE_READ_REQUEST w queue msn offset payload) ≡ None = subst (λ (o : ℕ). segment_end s f (Untagged last o w queue msn offset payload) ≡ None) same lives in
     let fine : RequestIsFine s payload = alive_request s f last w queue msn offset payload at goes in
@@ -189,7 +190,7 @@ segment_fits size s f (Tagged last opcode stag to payload) None len total live a
     ) in
     (record { side = after.0.side; receives = after.0.receives; receive_length = after.0.receive_length; receive = after.0.receive; up = after.0.up; down = after.0.down; hello = after.0.hello; queue = after.0.queue; responses = after.0.responses; messages = after.0.messages; stag = after.0.stag; regions = after.0.regions }, after.1)
 segment_fits size s f (Untagged last opcode w queue msn offset payload) None len total live at lives h =
-    let left = answered_fits s f last opcode w queue msn offset payload (eqb opcode OPCODE_READ_REQUEST) refl at lives h.0.regions
+    let left = answered_fits (hello_max + last_max (has_ended s)) s f last opcode w queue msn offset payload (eqb opcode OPCODE_READ_REQUEST) refl at lives h.0.regions
     (record { hello = h.0.hello; queue = subst (λ (b : Bool). QueueFits b s.send_queue) live h.0.queue; responses = h.0.responses; messages = h.0.messages }) in (
       record {
         side = h.0.side;
@@ -243,8 +244,34 @@ hello_fits size s f (Ok hello) len total live h = (
 )
 hello_fits size s f (Err reason) len total live h = end_fits size s (ends.Bad f.at reason) len total live h
 
+-- other lengths are agreed than before: a Terminate follows the hello
+sizes_fits : (size : ℕ → ℕ) (s : LinkState) (f : Frame) (hello : Hello) (b : Bool) (len total : ℕ) → has_ended s ≡ false → Fits size len total s → Fits size len total (cond b (with_other_sizes f s) (with_peer_hello f (Ok hello) s))
+sizes_fits size s f hello true len total live h = (
+  record {
+    side = h.0.side;
+    receives = h.0.receives;
+    receive_length = h.0.receive_length;
+    receive = h.0.receive;
+    up = h.0.up;
+    down = h.0.down;
+    hello = (let none = ap last_max live in omega (arith, h.0.hello, none, length-append s.send_queue.hello (terminate_message REASON_SIZES), terminate_len REASON_SIZES));
+    queue = ended_fits (with_hello (terminate_message REASON_SIZES) s.send_queue) true (subst (λ (b : Bool). QueueFits b s.send_queue) live h.0.queue);
+    responses = h.0.responses;
+    messages = h.0.messages;
+    stag = h.0.stag;
+    regions = h.0.regions;
+  },
+  h.1,
+)
+sizes_fits size s f hello false len total live h = hello_fits size s f (Ok hello) len total live h
+
+hello_from_fits : (size : ℕ → ℕ) (side : Side) (s : LinkState) (f : Frame) (r : Result Hello ℕ) (len total : ℕ) → has_ended s ≡ false → Fits size len total s → Fits size len total (with_hello_from side f r s)
+hello_from_fits size Initiator s f r len total live h = hello_fits size s f r len total live h
+hello_from_fits size Responder s f (Err reason) len total live h = hello_fits size s f (Err reason) len total live h
+hello_from_fits size Responder s f (Ok hello) len total live h = sizes_fits size s f hello (has_other_sizes Responder s hello.private) len total live h
+
 frame_fits : (size : ℕ → ℕ) (len total : ℕ) (a : Awaited) (s : LinkState) (frame : List ℕ) → has_ended s ≡ false → Fits size len total s → Fits size len total (with_frame s a frame)
-frame_fits size len total (HelloFrom side) s frame live h = hello_fits size s (next_frame s frame) (hello_of side frame) len total live h
+frame_fits size len total (HelloFrom side) s frame live h = hello_from_fits size side s (next_frame s frame) (hello_of side frame) len total live h
 frame_fits size len total Fpdu s frame live h = fpdu_fits size s (next_frame s frame) (next_segment s frame) len total live refl h
 
 -- one step on a piece

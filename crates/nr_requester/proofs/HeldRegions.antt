@@ -22,6 +22,7 @@ use Rattle.nr_requester.proofs.Releases.{from_lower}
 use Rattle.nr_requester.specs.HeldBytes.{xid_of, AreRisingBy}
 use Rattle.nr_requester.specs.Views.{claim_len, HasRoom, AreRising, IsAnswered, RequesterInvariant}
 use Rattle.std.proofs.lemmas.List.{length-replicate}
+use Rattle.nr_link.specs.declared.agreement.Agreement.{Agreement}
 use Rattle.nr_link.specs.declared.agreement.SideTerms.{SideTerms}
 use Rattle.nr_reduce.specs.declared.outline.Plan.{Plan}
 use Rattle.nr_reduce.specs.Plans.{total, has_segment}
@@ -76,7 +77,7 @@ offered_held_from m o =
 
 -- ---- A call more
 
-claims_append : (xs : List OutstandingCall) (o : OutstandingCall) → all_claims (xs ++ o ∷ []) ≡ all_claims xs ++ call_claims o.claims
+pub claims_append : (xs : List OutstandingCall) (o : OutstandingCall) → all_claims (xs ++ o ∷ []) ≡ all_claims xs ++ call_claims o.claims
 claims_append [] o = append-nil (call_claims o.claims)
 claims_append (x ∷ xs) o = ap (λ (cs : List Claim). call_claims x.claims ++ cs) (claims_append xs o) ∙ sym (append_assoc (call_claims x.claims) (all_claims xs) (call_claims o.claims))
 
@@ -86,11 +87,11 @@ sent_held m m2 offered claims memory is =
     let all : SentHeld m (with_offered m offered) (claims_of m offered) = record { next = keep.0; keeps = keep.1; own = offered_held_from m offered } in
     subst (λ (n : RegisteredMemory). SentHeld m n claims) (sym memory) (subst (λ (c : Claims). SentHeld m (with_offered m offered) c) (sym is) all)
 
-offers_append : (xs : List OutstandingCall) (o : OutstandingCall) → AllByRecursion OffersOwn xs → OffersOwn o → AllByRecursion OffersOwn (xs ++ o ∷ [])
+pub offers_append : (xs : List OutstandingCall) (o : OutstandingCall) → AllByRecursion OffersOwn xs → OffersOwn o → AllByRecursion OffersOwn (xs ++ o ∷ [])
 offers_append [] o h one = (one, tt)
 offers_append (x ∷ xs) o h one = (h.0, offers_append xs o h.1 one)
 
-rooms_append : (len : ℕ) (xs : List OutstandingCall) (o : OutstandingCall) → AllByRecursion (HasRoom len) xs → HasRoom len o → AllByRecursion (HasRoom len) (xs ++ o ∷ [])
+pub rooms_append : (len : ℕ) (xs : List OutstandingCall) (o : OutstandingCall) → AllByRecursion (HasRoom len) xs → HasRoom len o → AllByRecursion (HasRoom len) (xs ++ o ∷ [])
 rooms_append len [] o h one = (one, tt)
 rooms_append len (x ∷ xs) o h one = (h.0, rooms_append len xs o h.1 one)
 
@@ -187,11 +188,11 @@ pub drain_sound : (link link2 : LinkSide) (len n xid grant room : ℕ) (items : 
 drain_sound link link2 len n xid grant room items answers s is =
     same_sound link link2 len xid grant room room items answers s (ap (λ (l : LinkSide). l.state.memory) is ∙ (drain_leaves link n).0) (ap (λ (l : LinkSide). l.state.receive_queue) is ∙ (drain_leaves link n).1.0) (ap (λ (l : LinkSide). l.state.reads) is ∙ (drain_leaves link n).1.1) (omega arith)
 
-first_sound : (len first_stag xid room : ℕ) (terms : SideTerms) → xid ≤ 2 ^ 32 → RequesterInvariant len (initial_link Initiator 1 first_stag terms) xid 1 [] [] room
+first_sound : (len first_stag xid room : ℕ) (terms : SideTerms) (earlier : Option Agreement) → xid ≤ 2 ^ 32 → RequesterInvariant len (initial_link Initiator 1 first_stag terms earlier) xid 1 [] [] room
 unfolding initial_link
-first_sound len first_stag xid room terms fits = record { xid = fits; few = omega arith; some = omega arith; granted = omega arith; none_waits = refl; none_lent = refl; held = omega arith; offers = tt; rooms = tt; no_reads = refl; rising = tt; apart = tt; has_room = omega arith }
+first_sound len first_stag xid room terms earlier fits = record { xid = fits; few = omega arith; some = omega arith; granted = omega arith; none_waits = refl; none_lent = refl; held = omega arith; offers = tt; rooms = tt; no_reads = refl; rising = tt; apart = tt; has_room = omega arith }
 
-pub opened_sound : (link : LinkSide) (len first_xid first_stag n room : ℕ) (terms : SideTerms) (items : List OutstandingCall) (answers : List AnsweredCall) → link ≡ initial_link Initiator 1 first_stag terms → n ≡ first_xid → first_xid < 2 ^ 32 → items ≡ [] → answers ≡ [] → RequesterInvariant len link n 1 items answers room
-opened_sound link len first_xid first_stag n room terms items answers is xid fits none empty =
-    subst (λ (l : LinkSide). RequesterInvariant len l n 1 items answers room) (sym is) (subst (λ (ys : List AnsweredCall). RequesterInvariant len (initial_link Initiator 1 first_stag terms) n 1 items ys room) (sym empty)
-    (subst (λ (xs : List OutstandingCall). RequesterInvariant len (initial_link Initiator 1 first_stag terms) n 1 xs [] room) (sym none) (first_sound len first_stag n room terms (omega (arith, xid, fits)))))
+pub opened_sound : (link : LinkSide) (len first_xid first_stag n room : ℕ) (terms : SideTerms) (earlier : Option Agreement) (items : List OutstandingCall) (answers : List AnsweredCall) → link ≡ initial_link Initiator 1 first_stag terms earlier → n ≡ first_xid → first_xid < 2 ^ 32 → items ≡ [] → answers ≡ [] → RequesterInvariant len link n 1 items answers room
+opened_sound link len first_xid first_stag n room terms earlier items answers is xid fits none empty =
+    subst (λ (l : LinkSide). RequesterInvariant len l n 1 items answers room) (sym is) (subst (λ (ys : List AnsweredCall). RequesterInvariant len (initial_link Initiator 1 first_stag terms earlier) n 1 items ys room) (sym empty)
+    (subst (λ (xs : List OutstandingCall). RequesterInvariant len (initial_link Initiator 1 first_stag terms earlier) n 1 xs [] room) (sym none) (first_sound len first_stag n room terms earlier (omega (arith, xid, fits)))))

@@ -69,7 +69,13 @@ pub mod KeptLists
 pub mod NamedRegions
 pub mod DeadRegions
 pub mod CountedReleases
-pub mod Reopening
+pub mod ResumedLists
+pub mod HeldCalls
+pub mod Resuming
+pub mod ResendSteps
+pub mod NextBegun
+pub mod NextTickets
+pub mod CallsGoOn
 pub mod ReopenedLinks
 pub mod NextLinks
 pub mod NextAnswers
@@ -78,3 +84,9 @@ pub mod Resent
 pub mod ResentAnswers
 pub mod ResendStands
 pub mod AllResent
+pub mod OwnSides
+pub mod KeptOn
+pub mod CallsKeep
+pub mod OutcomesAccepted
+pub mod KeptLaw
+pub mod EarlierLinks

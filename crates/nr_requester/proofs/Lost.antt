@@ -37,7 +37,7 @@ ended_state opened e event end is =
 no_end : {X : Type 0} (end : End) → Some end ≡ None → X
 no_end end e = absurd cc
 
-lost_client : (opened : LinkParameters) (link : ℕ) (h : RequesterSide) (run : List Mark) (xid : ℕ) (end : End) → h.state.side.ended ≡ Some end → KeepsClient opened link h run → KeepsClient opened link (after_revoke h xid) run
+pub lost_client : (opened : LinkParameters) (link : ℕ) (h : RequesterSide) (run : List Mark) (xid : ℕ) (end : End) → h.state.side.ended ≡ Some end → KeepsClient opened link h run → KeepsClient opened link (after_revoke h xid) run
 unfolding after_revoke
 lost_client opened link h run xid end is s =
     let count : ℕ = length (bytes_received link Initiator run) in
@@ -54,7 +54,7 @@ lost_client opened link h run xid end is s =
       side = λ none. no_end end (sym is ∙ none);
     }
 
-lost_given : (h : RequesterSide) (xid : ℕ) → given_state revoked_if xid h.state (after_revoke h xid).state
+pub lost_given : (h : RequesterSide) (xid : ℕ) → given_state revoked_if xid h.state (after_revoke h xid).state
 unfolding after_revoke
 lost_given h xid = (refl, (refl, refl))
 

@@ -24,7 +24,7 @@ use Rattle.nr_requester.specs.AfterCalls.{stored_call}
 use Rattle.nr_requester.specs.CallRegions.{OffersPlan}
 use Rattle.nr_requester.specs.KeptAnswers.{IsAsked, KeepsAnswers, is_due}
 use Rattle.nr_requester.specs.OpenCalls.{call_with}
-use Rattle.nr_requester.proofs.Reopening.{all_with_last}
+use Rattle.nr_requester.proofs.CallsGoOn.{all_with_last}
 use Rattle.nr_requester.specs.Reopening.{CallsAgain, OpensNext, after_reopen, call_again, calls_again, calls_again_from, plan_again, with_call_again}
 
 -- ---- The regions of its calls

@@ -9,16 +9,16 @@ use Rattle.nr_endpoint.specs.Hellos.{receive_length_for}
 use Rattle.nr_reduce.specs.declared.mark.LinkParameters.{LinkParameters}
 use Rattle.nr_reduce.specs.Events.{events}
 use Rattle.nr_reduce.specs.Hellos.{client_hello}
-use Rattle.nr_reduce.specs.KeptClient.{KeptClient, opened_client}
+use Rattle.nr_reduce.specs.KeptClient.{CanResume, KeptClient, opened_client}
 use Rattle.nr_reduce.specs.Run.{client}
 use Rattle.nr_reduce.specs.Standing.{ClientRepresents}
 use Rattle.nr_reduce.proofs.Standing.{client_begins_lem}
 use Rattle.nr_requester.specs.RequesterState.{RequesterSide, queue_of, kept_client}
-use Rattle.nr_requester.specs.Standing.{LinkKeeps}
-use Rattle.nr_requester.specs.Reopening.{NextLinkBegins, OpensNext, after_reopen, calls_again, next_side}
+use Rattle.nr_requester.specs.Standing.{LinkKeeps, KeepsClient}
+use Rattle.nr_requester.specs.Reopening.{OpensNext, after_reopen, calls_again, next_side}
 use Rattle.nr_requester.proofs.Marks.{some_units}
 
-kept_next : (next : LinkParameters) (h : RequesterSide) (staging : List ℕ) → OpensNext next h.state (calls_again h.state) → opened_client next ≡ record (kept_client (after_reopen h staging).state) { agreed = next.agreed }
+kept_next : (next : LinkParameters) (h : RequesterSide) (staging : List ℕ) → OpensNext next h.state (calls_again h.state) → opened_client next ≡ kept_client (after_reopen h staging).state
 unfolding after_reopen
 kept_next next h staging o = λ i. record (opened_client next) {
   next_xid = sym o.xid i;
@@ -26,6 +26,7 @@ kept_next next h staging o = λ i. record (opened_client next) {
   calls = sym o.calls i;
   memory = sym o.memory i;
   number = (sym o.terms i).number;
+  agreed = sym o.agreed i;
 }
 
 queue_next : (next : LinkParameters) (h : RequesterSide) (staging : List ℕ) → OpensNext next h.state (calls_again h.state) → client_hello next ≡ queue_of (after_reopen h staging).state
@@ -60,10 +61,12 @@ side_next next link h o = record {
   client_terms = refl;
 }
 
-pub next_link_begins : NextLinkBegins
+-- it keeps the client of its next link, as that is opened
+pub next_link_begins : (next : LinkParameters) (link : ℕ) (h : RequesterSide) (staging : List ℕ) → CanResume next.resumed next.first_xid → OpensNext next h.state (calls_again h.state) → KeepsClient next link (after_reopen h staging) []
 unfolding after_reopen
 next_link_begins next link h staging can o = record {
   wished = o.wished;
+  resumes = can;
   kept = subst (λ (k : KeptClient). ClientRepresents next link k (initial_input Responder) (queue_of (after_reopen h staging).state) []) (kept_next next h staging o)
       (subst (λ (q : List ℕ). ClientRepresents next link (opened_client next) (initial_input Responder) q []) (queue_next next h staging o) (client_begins_lem next link can));
   sent = λ none. refl;

@@ -11,6 +11,7 @@ use Rattle.nr_regions.specs.RegisteredMemory.{RegisteredMemory, Outside, outside
 use Rattle.nr_regions.specs.Table.{IsTotal}
 use Rattle.nr_regions.proofs.Totals.{sound_initial, sound_register, sound_release}
 use Rattle.nr_wire.specs.declared.hello.Side.TheVariants.{Initiator}
+use Rattle.nr_link.specs.declared.agreement.Agreement.{Agreement}
 use Rattle.nr_link.specs.declared.agreement.SideTerms.{SideTerms}
 use Rattle.nr_endpoint.specs.declared.offering.Offered.{Offered}
 use Rattle.nr_endpoint.specs.EndpointState.{EndpointState}
@@ -22,13 +23,13 @@ use Rattle.nr_requester.specs.HeldBytes.{NothingOutside}
 
 -- ---- As it is opened
 
-initial_next : (first_stag : ℕ) (terms : SideTerms) → (initial_link Initiator 1 first_stag terms).state.memory.next ≡ first_stag
+initial_next : (first_stag : ℕ) (terms : SideTerms) (earlier : Option Agreement) → (initial_link Initiator 1 first_stag terms earlier).state.memory.next ≡ first_stag
 unfolding initial_link initial_memory
-initial_next first_stag terms = refl
+initial_next first_stag terms earlier = refl
 
-pub opened_outside : (e : EndpointState) (first_stag : ℕ) (terms : SideTerms) → e.link ≡ initial_link Initiator 1 first_stag terms → e.outside ≡ empty → first_stag ≤ 2 ^ 32 → NothingOutside e
-opened_outside e first_stag terms is none fits =
-    let next : e.link.state.memory.next ≡ first_stag = ap (λ (l : LinkSide). l.state.memory.next) is ∙ initial_next first_stag terms in
+pub opened_outside : (e : EndpointState) (first_stag : ℕ) (terms : SideTerms) (earlier : Option Agreement) → e.link ≡ initial_link Initiator 1 first_stag terms earlier → e.outside ≡ empty → first_stag ≤ 2 ^ 32 → NothingOutside e
+opened_outside e first_stag terms earlier is none fits =
+    let next : e.link.state.memory.next ≡ first_stag = ap (λ (l : LinkSide). l.state.memory.next) is ∙ initial_next first_stag terms earlier in
     subst (λ (n : ℕ). IsTotal outside_len n 0 e.outside) (sym next) (subst (λ (m : FinMap nat_cmp Outside). IsTotal outside_len first_stag 0 m) (sym none) (sound_initial outside_len first_stag fits))
 
 -- ---- A region is released

@@ -19,7 +19,7 @@ use Rattle.nr_requester.proofs.Accepting.{answers_as_client}
 pub submit_keeps_law : SubmitKeepsLaw
 submit_keeps_law opened link h run call form xid s answer numbers writable asked grant =
     let mark : Mark = marks.Submit link call form (submissions.Accepted xid) in
-    let kept = accepted_keeps opened link run call form xid (sym (answers_as_client opened link h run call form s) ∙ answer) (none_waits opened link run s.keeps.first.resumed) numbers asked writable in (
+    let kept = accepted_keeps opened link run call form xid (sym (answers_as_client opened link h run call form s) ∙ answer) (none_waits opened link run s.first.resumed) numbers asked writable in (
       AtEachMark_more (AskedMark IsPrefixOf opened link) [] run mark asked (λ same. kept.0),
       AtEachMark_more (WithinGrant opened link) [] run mark grant (λ same. kept.1),
     )

@@ -1,21 +1,28 @@
 -- What a requester keeps of its first link it keeps of a link that may be one of several.
-use Rattle.std.proofs.Common.{◌≡◌, ℕ, ◌+◌, min, Bool, true, false, List, [], ◌∷◌, ◌++◌, map, Option, refl, sym, ap, subst, ◌∙◌, arith}
+use Rattle.std.proofs.Common.{◌≡◌, ℕ, ◌+◌, min, Bool, true, false, List, [], ◌∷◌, ◌++◌, map, Option, None, Some, refl, sym, ap, subst, ◌∙◌, arith}
 use Rattle.std.specs.List.{AllByRecursion, filter}
 use Rattle.nr_wire.specs.declared.hello.Side.TheVariants.{Initiator}
-use Rattle.nr_link.specs.declared.agreement.Agreement.{Agreement}
+use Rattle.nr_link.specs.declared.end.End.{End}
 use Rattle.nr_reduce.specs.declared.mark.Mark.{Mark}
 use Rattle.nr_reduce.specs.declared.mark.LinkParameters.{LinkParameters}
 use Rattle.nr_reduce.specs.declared.mark.ResumedCall.{ResumedCall}
 use Rattle.nr_reduce.specs.Asked.{as_accepted, client_calls}
 use Rattle.nr_reduce.specs.Events.{events}
 use Rattle.nr_reduce.specs.History.{AcceptedCall, accepted_calls}
-use Rattle.nr_reduce.specs.Standing.{ClientRepresents}
+use Rattle.nr_reduce.specs.declared.mark.Mark.TheVariants as marks
+use Rattle.nr_reduce.specs.ClientState.{WaitingCall}
+use Rattle.nr_reduce.specs.Run.{client}
+use Rattle.nr_reduce.proofs.Unresumed.{none_waits}
 use Rattle.nr_requester.specs.declared.answer.AnsweredCall.{AnsweredCall}
-use Rattle.nr_requester.specs.RequesterState.{StoredCall, RequesterSide, queue_of, kept_client, input_kept}
+use Rattle.nr_requester.specs.RequesterState.{StoredCall, RequesterSide}
+use Rattle.nr_requester.specs.AfterPiece.{after_fed}
 use Rattle.nr_requester.specs.CountedMarks.{marks_max, marks_of}
 use Rattle.nr_requester.specs.KeptAnswers.{KeepsAnswers, is_due}
-use Rattle.nr_requester.specs.Standing.{RequesterRepresents}
-use Rattle.nr_requester.specs.ReopenedLinks.{FirstLinksAreKept, own_answers}
+use Rattle.nr_requester.specs.Standing.{waiting_message}
+use Rattle.nr_requester.specs.Resends.{FirstLinksResendNone, after_feed, resent_from, resent_unless, with_resends}
+use Rattle.nr_requester.specs.ReopenedLinks.{FirstLinksAreKept, own_side}
+use Rattle.nr_requester.proofs.Fed.{piece_is_a_mark}
+use Rattle.nr_requester.proofs.KeptOn.{none_to_resend}
 
 all_own : (answers : List AnsweredCall) → filter (λ (a : AnsweredCall). true) answers ≡ answers
 all_own [] = refl
@@ -28,18 +35,26 @@ all_true (c ∷ calls) = (refl, all_true calls)
 pub first_links_are_kept : FirstLinksAreKept
 first_links_are_kept opened link h run s =
     let calls : accepted_calls link run ≡ client_calls opened link run =
-    sym (ap (λ (resumed : List ResumedCall). map as_accepted resumed ++ accepted_calls link run) s.keeps.first.resumed) in
+    sym (ap (λ (resumed : List ResumedCall). map as_accepted resumed ++ accepted_calls link run) s.first.resumed) in
     record {
-      is_own = λ (xid : ℕ). true;
-      earlier_marks = 0;
-      keeps = record {
-        wished = s.keeps.wished;
-        kept = subst (λ (agreed : Option Agreement). ClientRepresents opened link (record (kept_client h.state) { agreed = agreed }) (input_kept h) (queue_of h.state) run) (sym s.keeps.first.agreed) s.keeps.kept;
-        sent = s.keeps.sent;
-        side = s.keeps.side;
-      };
+      keeps = s.keeps;
       calls = record { outstanding = all_true h.state.outstanding; to_come = λ xid above. refl };
-      answers = subst (λ (asked : List AcceptedCall). KeepsAnswers opened (events link Initiator run) (is_due link run) asked (record h.state { answered = own_answers (λ (xid : ℕ). true) h.state })) calls
+      answers = subst (λ (asked : List AcceptedCall). KeepsAnswers opened (events link Initiator run) (is_due link run) asked (own_side (λ (xid : ℕ). true) h).state) calls
           (subst (λ (answers : List AnsweredCall). KeepsAnswers opened (events link Initiator run) (is_due link run) (accepted_calls link run) (record h.state { answered = answers })) (sym (all_own h.state.answered)) s.answers);
       counted = s.counted ∙ (let more : marks_of link run ≡ 0 + marks_of link run = omega arith in ap (λ (n : ℕ). min n marks_max) more);
+      resent = none_to_resend (client opened link run) (none_waits opened link run s.first.resumed);
     }
+
+-- a piece leaves no call that waits, so none is sent again
+unheld_stays : (ended : Option End) (h : RequesterSide) → h.state.side.ended ≡ ended → (h.state.side.ended ≡ None → h.state.side.send_queue.held ≡ []) → resent_unless ended h ≡ h
+unfolding with_resends
+unheld_stays None h is unheld = ap (λ (ms : List (List ℕ)). resent_from ms h) (unheld is)
+unheld_stays (Some end) h is unheld = refl
+
+pub first_links_resend_none : FirstLinksResendNone
+unfolding after_feed
+first_links_resend_none opened link h run piece staging s =
+    let mark : Mark = marks.Fed link Initiator piece in
+    let next = piece_is_a_mark h piece staging opened link run s in
+    unheld_stays (after_fed h piece staging).state.side.ended (after_fed h piece staging) refl
+    (λ lives. (next.keeps.side lives).held ∙ ap (λ (ws : List WaitingCall). map (waiting_message opened) ws) (none_waits opened link (run ++ mark ∷ []) next.first.resumed))

@@ -18,14 +18,14 @@ use Rattle.nr_reduce.specs.Run.{client}
 use Rattle.nr_reduce.proofs.Standing.{itself}
 use Rattle.nr_reduce.proofs.Steps.{end_state_after_append, events_one}
 use Rattle.nr_reduce.proofs.Submits.{after_resent, resent_is}
-use Rattle.nr_requester.specs.CountedMarks.{is_counted, marks_max, marks_of, one_mark_more}
+use Rattle.nr_requester.specs.CountedMarks.{marks_max, marks_of}
 use Rattle.nr_requester.specs.KeptAnswers.{KeepsAnswers, client_by, is_due}
 use Rattle.nr_requester.specs.RequesterState.{RequesterState, RequesterSide}
-use Rattle.nr_requester.specs.ReopenedLinks.{own_answers}
-use Rattle.nr_requester.specs.Resends.{ResendIsAMark, after_resend}
-use Rattle.nr_requester.specs.Standing.{waiting_message}
+use Rattle.nr_requester.specs.ReopenedLinks.{HasOwnCalls, own_side}
+use Rattle.nr_requester.specs.Resends.{after_resend}
+use Rattle.nr_requester.specs.Standing.{AnswersWith, KeepsClient, waiting_message}
 use Rattle.nr_requester.proofs.AnswerSteps.{accepted_one, due_same}
-use Rattle.nr_requester.proofs.CountedMarks.{count_more}
+use Rattle.nr_requester.proofs.CountedMarks.{counted_beside}
 use Rattle.nr_requester.proofs.Links.{accepted_again}
 use Rattle.nr_requester.proofs.Marks.{ended_as, own_events}
 use Rattle.nr_requester.proofs.Resent.{resend_keeps}
@@ -51,31 +51,56 @@ calls_again_more opened link run w =
     ∙ ap (λ (xs : List AcceptedCall). map as_accepted opened.resumed ++ (accepted_calls link run ++ xs)) (sym own)
     ∙ ap (λ (xs : List AcceptedCall). map as_accepted opened.resumed ++ xs) (sym (accepted_one link run (resend_mark link w)))
 
-counted_again : (link : ℕ) (run : List Mark) (w : WaitingCall) (n earlier : ℕ) → n ≡ min (earlier + marks_of link run) marks_max → one_mark_more n ≡ min (earlier + marks_of link (run ++ resend_mark link w ∷ [])) marks_max
-unfolding marks_of
-counted_again link run w n earlier so_far =
-    let more = count_more (is_counted link) run (resend_mark link w) ∙ ap (λ (b : Bool). marks_of link run + length (cond b (resend_mark link w ∷ []) [])) (itself link) in
-    omega (arith, more, so_far)
+-- what it stands for while some calls can still be sent again
+pub record KeepsSoFar (is_own : ℕ → Bool) (earlier : ℕ) (opened : LinkParameters) (link : ℕ) (h : RequesterSide) (run : List Mark) : Type 0 where
+  pub keeps : KeepsClient opened link h run
+  pub calls : HasOwnCalls is_own h.state
+  pub answers : AnswersWith (map as_accepted opened.resumed) opened link (own_side is_own h) run
+  pub counted : h.marks ≡ min (earlier + marks_of link run) marks_max
 
-pub resend_is_a_mark : ResendIsAMark
-unfolding after_resend client
-resend_is_a_mark opened link h run w ws s none first =
-    let es : List RunEvent = events link Initiator run in
-    let mark : Mark = resend_mark link w in
-    let count : ℕ = length (bytes_received link Initiator run) in
-    let event : RunEvent = CallSubmitted count (accepted_again w) in
-    let after : RequesterSide = after_resend h (waiting_message opened w) in
-    let kept : RequesterState = record after.state { answered = own_answers s.is_own h.state } in
-    let there = Contains-append_left (map as_accepted opened.resumed) (accepted_calls link run) (accepted_again w) (let all = waits_asked opened link run in let one = subst (λ (xs : List WaitingCall). AllByRecursion (λ (x : WaitingCall). Contains (map as_accepted opened.resumed) (accepted_again x)) xs) first all in one.0) in
-    let stays : (client opened link run).ended ≡ None = sym s.keeps.kept.keeps.ended ∙ none in
-    let answers = resent_answers opened es count (is_due link run) (is_due link (run ++ mark ∷ [])) (client_calls opened link run) w ws (record h.state { answered = own_answers s.is_own h.state }) after.state.side after.state.sends first
-    (resent_state opened link run count w ws stays first) (due_same link run mark (λ x. refl)) there s.answers in
-    record {
-      is_own = s.is_own;
-      earlier_marks = s.earlier_marks;
-      keeps = resend_keeps opened link h run w ws s.keeps none first;
-      calls = record { outstanding = s.calls.outstanding; to_come = s.calls.to_come };
-      answers = subst (λ (xs : List RunEvent). KeepsAnswers opened xs (is_due link (run ++ mark ∷ [])) (client_calls opened link (run ++ mark ∷ [])) kept) (ap (λ (xs : List RunEvent). es ++ xs) (sym (own_events link (event ∷ []))) ∙ sym (events_one link Initiator run mark))
-          (subst (λ (xs : List AcceptedCall). KeepsAnswers opened (es ++ event ∷ []) (is_due link (run ++ mark ∷ [])) xs kept) (calls_again_more opened link run w) answers);
-      counted = counted_again link run w h.marks s.earlier_marks s.counted;
-    }
+module _ (is_own : ℕ → Bool) (earlier : ℕ) (opened : LinkParameters) (link : ℕ) (h : RequesterSide) (run : List Mark) (w : WaitingCall) (ws : List WaitingCall) (s : KeepsSoFar is_own earlier opened link h run) (none : h.state.side.ended ≡ None) (first : (client opened link run).state.waiting ≡ w ∷ ws) where
+  abbrev es : List RunEvent
+  es = events link Initiator run
+
+  abbrev mark : Mark
+  mark = resend_mark link w
+
+  abbrev count : ℕ
+  count = length (bytes_received link Initiator run)
+
+  abbrev event : RunEvent
+  event = CallSubmitted count (accepted_again w)
+
+  abbrev after : RequesterSide
+  after = after_resend h (waiting_message opened w)
+
+  abbrev kept : RequesterState
+  kept = (own_side is_own after).state
+
+  asked_before : Contains (client_calls opened link run) (accepted_again w)
+  asked_before =
+      Contains-append_left (map as_accepted opened.resumed) (accepted_calls link run) (accepted_again w)
+      (subst (λ (xs : List WaitingCall). AllByRecursion (λ (x : WaitingCall). Contains (map as_accepted opened.resumed) (accepted_again x)) xs) first (waits_asked opened link run)).0
+
+  stays : (client opened link run).ended ≡ None
+  stays = sym s.keeps.kept.keeps.ended ∙ none
+
+  by_one : KeepsAnswers opened (es ++ event ∷ []) (is_due link (run ++ mark ∷ [])) (client_calls opened link run ++ accepted_again w ∷ []) kept
+  unfolding after_resend client
+  by_one =
+      resent_answers opened es count (is_due link run) (is_due link (run ++ mark ∷ [])) (client_calls opened link run) w ws (own_side is_own h).state after.state.side after.state.sends first
+      (resent_state opened link run count w ws stays first) (due_same link run mark (λ x. refl)) asked_before s.answers
+
+  answers_next : AnswersWith (map as_accepted opened.resumed) opened link (own_side is_own after) (run ++ mark ∷ [])
+  answers_next =
+      subst (λ (xs : List RunEvent). KeepsAnswers opened xs (is_due link (run ++ mark ∷ [])) (client_calls opened link (run ++ mark ∷ [])) kept) (ap (λ (xs : List RunEvent). es ++ xs) (sym (own_events link (event ∷ []))) ∙ sym (events_one link Initiator run mark))
+      (subst (λ (xs : List AcceptedCall). KeepsAnswers opened (es ++ event ∷ []) (is_due link (run ++ mark ∷ [])) xs kept) (calls_again_more opened link run w) by_one)
+
+  pub resend_so_far : KeepsSoFar is_own earlier opened link (after_resend h (waiting_message opened w)) (run ++ resend_mark link w ∷ [])
+  unfolding after_resend
+  resend_so_far = record {
+    keeps = resend_keeps opened link h run w ws s.keeps none first;
+    calls = record { outstanding = s.calls.outstanding; to_come = s.calls.to_come };
+    answers = answers_next;
+    counted = counted_beside earlier link run mark h.marks true (itself link) s.counted;
+  }

@@ -22,15 +22,14 @@ use Rattle.nr_reduce.specs.StandingLaws.{GoesOn}
 use Rattle.nr_reduce.proofs.Standing.{client_stands}
 use Rattle.nr_reduce.proofs.Submits.{kept_resends}
 use Rattle.nr_reduce.proofs.CountedBytes.{client_bytes_due, client_bytes_written}
-use Rattle.nr_requester.specs.RequesterState.{RequesterState, RequesterSide, queue_of, kept_client, input_kept}
-use Rattle.nr_requester.specs.Standing.{LinkKeeps, waiting_message}
-use Rattle.nr_requester.specs.ReopenedLinks.{KeepsLink}
+use Rattle.nr_requester.specs.RequesterState.{RequesterSide, queue_of, kept_client, input_kept}
+use Rattle.nr_requester.specs.Standing.{LinkKeeps, KeepsClient, waiting_message}
 use Rattle.nr_requester.specs.Resends.{after_resend}
 use Rattle.nr_requester.proofs.Links.{accepted_again, sent_is, link_resent, queue_resent}
 use Rattle.nr_requester.proofs.Marks.{state_of, lives_as, own_events, state_next}
 use Rattle.nr_requester.proofs.Accepting.{same_input}
 
-module _ (opened : LinkParameters) (link : ℕ) (h : RequesterSide) (run : List Mark) (w : WaitingCall) (ws : List WaitingCall) (s : KeepsLink opened link h run) (none : h.state.side.ended ≡ None) (first : (state_of opened link run).waiting ≡ w ∷ ws) where
+module _ (opened : LinkParameters) (link : ℕ) (h : RequesterSide) (run : List Mark) (w : WaitingCall) (ws : List WaitingCall) (s : KeepsClient opened link h run) (none : h.state.side.ended ≡ None) (first : (state_of opened link run).waiting ≡ w ∷ ws) where
   abbrev k : ClientState
   k = state_of opened link run
 
@@ -45,9 +44,6 @@ module _ (opened : LinkParameters) (link : ℕ) (h : RequesterSide) (run : List 
 
   abbrev pub after : RequesterSide
   after = after_resend h (waiting_message opened w)
-
-  abbrev kept_by : RequesterState → KeptClient
-  kept_by r = record (kept_client r) { agreed = opened.agreed }
 
   stays : (client opened link run).ended ≡ None
   stays = sym s.kept.keeps.ended ∙ none
@@ -65,11 +61,11 @@ module _ (opened : LinkParameters) (link : ℕ) (h : RequesterSide) (run : List 
   left_few : reduce.ends_written k.written k.send_ends ≤ k.sends
   left_few = (let sent = sent_is opened h.state.side k keeps (omega (arith, due)) in let left = keeps.left in omega (arith, sent, left))
 
-  kept_next : ClientKeeps opened (kept_by after.state) (next_end_state (client_rules opened) (client opened link run) event) count
+  kept_next : ClientKeeps opened (kept_client after.state) (next_end_state (client_rules opened) (client opened link run) event) count
   unfolding kept_resent after_resend
   kept_next =
-      subst (λ (e : EndState ClientState). ClientKeeps opened (kept_resent (kept_by h.state)) (next_end_state (client_rules opened) e event) count) (sym (lives_as (client opened link run) stays))
-      (kept_resends opened (kept_by h.state) k count w ws (subst (λ (e : EndState ClientState). ClientKeeps opened (kept_by h.state) e count) (lives_as (client opened link run) stays) s.kept.keeps) first (omega (arith, due)) left_few)
+      subst (λ (e : EndState ClientState). ClientKeeps opened (kept_resent (kept_client h.state)) (next_end_state (client_rules opened) e event) count) (sym (lives_as (client opened link run) stays))
+      (kept_resends opened (kept_client h.state) k count w ws (subst (λ (e : EndState ClientState). ClientKeeps opened (kept_client h.state) e count) (lives_as (client opened link run) stays) s.kept.keeps) first (omega (arith, due)) left_few)
 
   queue_next : queue_of after.state ≡ queue_of h.state ++ client_output opened k event
   unfolding after_resend
@@ -85,12 +81,12 @@ module _ (opened : LinkParameters) (link : ℕ) (h : RequesterSide) (run : List 
   events_are : input_events link Initiator (input_kept h) resend ≡ event ∷ []
   events_are = own_events link (CallSubmitted (input_count (input_kept h)) (accepted_again w) ∷ []) ∙ ap (λ (n : ℕ). CallSubmitted n (accepted_again w) ∷ []) at
 
-  goes_on : GoesOn (ClientKeeps opened) (client_rules opened) link Initiator (kept_by after.state) (input_kept h) (queue_of h.state) (queue_of after.state) resend (client opened link run) count
+  goes_on : GoesOn (ClientKeeps opened) (client_rules opened) link Initiator (kept_client after.state) (input_kept h) (queue_of h.state) (queue_of after.state) resend (client opened link run) count
   goes_on =
       let zero_more : count ≡ count + 0 = omega arith in
       record {
-        keeps = subst (λ (n : ℕ). ClientKeeps opened (kept_by after.state) (end_state_after (client_rules opened) (client opened link run) (input_events link Initiator (input_kept h) resend)) n) zero_more
-            (subst (λ (es : List RunEvent). ClientKeeps opened (kept_by after.state) (end_state_after (client_rules opened) (client opened link run) es) count) (sym events_are) kept_next);
+        keeps = subst (λ (n : ℕ). ClientKeeps opened (kept_client after.state) (end_state_after (client_rules opened) (client opened link run) (input_events link Initiator (input_kept h) resend)) n) zero_more
+            (subst (λ (es : List RunEvent). ClientKeeps opened (kept_client after.state) (end_state_after (client_rules opened) (client opened link run) es) count) (sym events_are) kept_next);
         output = queue_next
             ∙ ap (λ (xs : List ℕ). queue_of h.state ++ xs) (sym output_next ∙ sym (append-nil (output_for (client_rules opened) (client opened link run) event)))
             ∙ ap (λ (es : List RunEvent). queue_of h.state ++ output_for_all (client_rules opened) (client opened link run) es) (sym events_are);
@@ -103,11 +99,12 @@ module _ (opened : LinkParameters) (link : ℕ) (h : RequesterSide) (run : List 
       (sym (state_next opened link run resend event stays (own_events link (event ∷ [])) refl))
       (link_resent opened h.state.side k count w ws keeps first due)
 
-  pub resend_keeps : KeepsLink opened link after (run ++ resend ∷ [])
+  pub resend_keeps : KeepsClient opened link after (run ++ resend ∷ [])
   unfolding after_resend
   resend_keeps = record {
     wished = s.wished;
-    kept = client_stands opened link (kept_by h.state) (kept_by after.state) (input_kept h) (input_kept after) (queue_of h.state) (queue_of after.state) run resend s.kept goes_on
+    resumes = s.resumes;
+    kept = client_stands opened link (kept_client h.state) (kept_client after.state) (input_kept h) (input_kept after) (queue_of h.state) (queue_of after.state) run resend s.kept goes_on
         (λ lives_on. same_input link run (input_kept h) (s.kept.received stays));
     sent = λ lives_on. s.sent none;
     side = λ lives_on. side_next;

@@ -12,7 +12,7 @@ use Rattle.nr_reduce.specs.ClientState.{ClientState, OutstandingCall, client_mem
 use Rattle.nr_reduce.specs.Run.{client, placed_bytes, grants_of}
 use Rattle.nr_reduce.specs.EndRules.{EndState}
 use Rattle.nr_reduce.specs.KeptCalls.{numbered_calls}
-use Rattle.nr_requester.specs.Standing.{AnswersAfter, RequesterRepresents, RequesterRunsOut}
+use Rattle.nr_requester.specs.Standing.{AnswersWith, RequesterRepresents, RequesterRunsOut}
 use Rattle.nr_reduce.specs.Matched.{IsPrefixOf}
 use Rattle.nr_reduce.specs.Asked.{AskedMark, IsRevoked, revoked_bytes}
 use Rattle.nr_reduce.specs.Credits.{WithinGrant}
@@ -37,7 +37,12 @@ use Rattle.nr_requester.specs.OpenCalls.{IsOutstanding, found_call, found_answer
 use Rattle.nr_requester.proofs.Releases.{joined_buffers}
 use Rattle.nr_requester.specs.CallRegions.{CallsOffer, OffersPlan, call_stags}
 use Rattle.nr_requester.proofs.FoundCalls.{found_one}
-use Rattle.nr_requester.proofs.RunOut.{memory_as_client, memory_out_lem}
+use Rattle.nr_requester.proofs.RunOut.{memory_as_client, memory_kept, memory_out_lem}
+use Rattle.nr_reduce.specs.Asked.{as_accepted}
+use Rattle.nr_reduce.specs.History.{AcceptedCall}
+use Rattle.nr_requester.specs.ReopenedLinks.{own_side}
+use Rattle.nr_requester.specs.KeptOn.{BuffersAreKept}
+use Rattle.nr_requester.proofs.OwnSides.{own_found}
 use Rattle.nr_reduce.proofs.Unresumed.{awaited_or_waits}
 
 abbrev or_call : StoredCall → Option StoredCall → StoredCall
@@ -102,9 +107,9 @@ by_regions f [] = refl
 by_regions f (r ∷ rs) = ap (λ (xs : List ℕ). f r.stag ++ xs) (by_regions f rs)
 
 -- the regions of the client of some marks
-offers_after : (opened : LinkParameters) (link : ℕ) (h : RequesterSide) (run : List Mark) → AnswersAfter opened link h run → CallsOffer (client opened link run).state.next_xid (client opened link run).state
+offers_after : (calls : List AcceptedCall) (opened : LinkParameters) (link : ℕ) (h : RequesterSide) (run : List Mark) → AnswersWith calls opened link h run → CallsOffer (client opened link run).state.next_xid (client opened link run).state
 unfolding client
-offers_after opened link h run k = k.regions
+offers_after calls opened link h run k = k.regions
 
 bytes_are_lem : (opened : LinkParameters) (link : ℕ) (h : RequesterSide) (run : List Mark) (xid : ℕ) (c : StoredCall) → HoldsPlaced opened link h run → CallsOffer (client opened link run).state.next_xid (client opened link run).state →
     AllByRecursion (IsWaiting (numbered_calls (client opened link run).state)) (map (kept_call h.state.sent) h.state.outstanding) →
@@ -128,7 +133,7 @@ buffers_are opened link h run xid holds offers waits is =
 
 pub buffers_are_placed : (opened : LinkParameters) (link : ℕ) (h : RequesterSide) (run : List Mark) (xid : ℕ) → RequesterRepresents opened link h run → IsOutstanding xid h.state →
     bytes_of_buffers (buffers_of xid h.state) ≡ revoked_bytes opened link run xid
-buffers_are_placed opened link h run xid s there = buffers_are opened link h run xid (memory_as_client opened link h run s) (offers_after opened link h run s.answers) s.keeps.kept.keeps.waits there
+buffers_are_placed opened link h run xid s there = buffers_are opened link h run xid (memory_as_client opened link h run s) (offers_after [] opened link h run s.answers) s.keeps.kept.keeps.waits there
 
 -- ---- Of a call that was answered
 
@@ -147,10 +152,10 @@ joined_regions : (f : Region → List ℕ) (rs : List Region) → concat (map f 
 joined_regions f [] = refl
 joined_regions f (r ∷ rs) = ap (λ (xs : List ℕ). f r ++ xs) (joined_regions f rs)
 
-answered_are : (opened : LinkParameters) (link : ℕ) (h : RequesterSide) (run : List Mark) (xid count : ℕ) (a : AnsweredCall) → AnswersAfter opened link h run → AreReceived count (client opened link run).state.accesses_received → found_answer xid h.state ≡ Some a →
+answered_are : (calls : List AcceptedCall) (opened : LinkParameters) (link : ℕ) (h : RequesterSide) (run : List Mark) (xid count : ℕ) (a : AnsweredCall) → AnswersWith calls opened link h run → AreReceived count (client opened link run).state.accesses_received → found_answer xid h.state ≡ Some a →
     bytes_of_buffers a.buffers ≡ revoked_bytes opened link run xid
 unfolding client placed_bytes grants_of
-answered_are opened link h run xid count a k received there =
+answered_are calls opened link h run xid count a k received there =
     let s : ClientState = (client opened link run).state in
     let place : ℕ = length (bytes_received link Initiator run) in
     let own : a.xid ≡ xid = found_own xid h.state.answered a there in
@@ -171,7 +176,14 @@ left_are opened link h run xid outstanding answered left = by (found_call xid h.
 
 pub left_are_placed : BuffersArePlaced
 left_are_placed opened link h run xid s =
-    left_are opened link h run xid (buffers_are_placed opened link h run xid s) (λ a. answered_are opened link h run xid _ a s.answers s.keeps.kept.keeps.accesses)
+    left_are opened link h run xid (buffers_are_placed opened link h run xid s) (λ a. answered_are [] opened link h run xid _ a s.answers s.keeps.kept.keeps.accesses)
+
+-- also of a link that was reopened, if the call is one of its own
+pub buffers_are_kept : BuffersAreKept
+buffers_are_kept is_own earlier opened link h run xid s own =
+    left_are opened link h run xid
+    (buffers_are opened link h run xid (memory_kept opened link h run s.keeps) (offers_after (map as_accepted opened.resumed) opened link (own_side is_own h) run s.answers) s.keeps.kept.keeps.waits)
+    (λ a there. answered_are (map as_accepted opened.resumed) opened link (own_side is_own h) run xid _ a s.answers s.keeps.kept.keeps.accesses (own_found is_own xid h.state.answered own ∙ there))
 
 pub revoke_keeps_law : RevokeKeepsLaw
 revoke_keeps_law opened link h run xid s there awaited asked grant =
@@ -192,7 +204,7 @@ revoked_same opened link h stopped run xid out = λ i.
 
 outstanding_out : (opened : LinkParameters) (link : ℕ) (h : RequesterSide) (stopped run : List Mark) (xid : ℕ) → RequesterRunsOut opened link h stopped run → IsOutstanding xid h.state → bytes_of_buffers (buffers_of xid h.state) ≡ revoked_bytes opened link run xid
 outstanding_out opened link h stopped run xid out there =
-    let now : CallsOffer _ (client opened link run).state = offers_after opened link h run out.answers in
+    let now : CallsOffer _ (client opened link run).state = offers_after [] opened link h run out.answers in
     let then : CallsOffer _ (record (client opened link stopped).state { written = out.written }) = subst (λ (e : EndState ClientState). CallsOffer e.state.next_xid e.state) out.same now in
     buffers_are opened link h stopped xid (memory_out_lem opened link h stopped run out) (record { before = then.before; calls = then.calls }) out.out.keeps.waits there
     ∙ revoked_same opened link h stopped run xid out
@@ -200,4 +212,4 @@ outstanding_out opened link h stopped run xid out there =
 pub revoked_out_lem : RevokedOut
 revoked_out_lem opened link h stopped run xid out =
     left_are opened link h run xid (outstanding_out opened link h stopped run xid out)
-    (λ a. answered_are opened link h run xid _ a out.answers (subst (λ (e : EndState ClientState). AreReceived (length (bytes_received link Initiator stopped)) e.state.accesses_received) (sym out.same) out.out.keeps.accesses))
+    (λ a. answered_are [] opened link h run xid _ a out.answers (subst (λ (e : EndState ClientState). AreReceived (length (bytes_received link Initiator stopped)) e.state.accesses_received) (sym out.same) out.out.keeps.accesses))

@@ -21,9 +21,10 @@ use Rattle.nr_reduce.specs.Run.{client, placed_bytes, grants_of}
 use Rattle.nr_reduce.specs.Credits.{credits_granted}
 use Rattle.nr_reduce.specs.KeptClient.{bytes_under, HoldsFor}
 use Rattle.nr_reduce.proofs.Numbered.{numbered_length}
-use Rattle.nr_requester.specs.RequesterState.{StoredCall, RequesterFeeding, feeding_of, stags_of, kept_call}
+use Rattle.nr_requester.specs.RequesterState.{StoredCall, RequesterFeeding, RequesterSide, feeding_of, stags_of, kept_call}
+use Rattle.nr_requester.specs.Standing.{KeepsClient}
 use Rattle.nr_requester.specs.AfterPiece.{requester_ended, after_frame, after_piece}
-use Rattle.nr_requester.specs.Laws.{MemoryAsClient, MemoryOut, AgreesOut, CountsOut, RefusesOut, PieceStaysOut}
+use Rattle.nr_requester.specs.Laws.{HoldsPlaced, MemoryAsClient, MemoryOut, AgreesOut, CountsOut, RefusesOut, PieceStaysOut}
 use Rattle.nr_requester.proofs.Answered.{ended_answer}
 use Rattle.nr_requester.proofs.AllMarks.{others_stay_out}
 
@@ -40,8 +41,11 @@ stored_hold opened link run m count sent (c ∷ cs) is h = (
   stored_hold opened link run m count sent cs is h.1,
 )
 
+pub memory_kept : (opened : LinkParameters) (link : ℕ) (h : RequesterSide) (run : List Mark) → KeepsClient opened link h run → HoldsPlaced opened link h run
+memory_kept opened link h run s = stored_hold opened link run h.state.side.memory _ h.state.sent h.state.outstanding refl s.kept.keeps.holds
+
 pub memory_as_client : MemoryAsClient
-memory_as_client opened link h run s = stored_hold opened link run h.state.side.memory _ h.state.sent h.state.outstanding refl s.keeps.kept.keeps.holds
+memory_as_client opened link h run s = memory_kept opened link h run s.keeps
 
 pub memory_out_lem : MemoryOut
 memory_out_lem opened link h stopped run out = stored_hold opened link stopped h.state.side.memory _ h.state.sent h.state.outstanding refl out.out.keeps.holds

@@ -3,6 +3,8 @@ use Rattle.std.proofs.Common.{◌≡◌, ℕ, ◌+◌, ◌⊎◌, inl, inr, Bool
 use Rattle.std.specs.Prelude.{is_some}
 use Rattle.std.proofs.lemmas.Bool.{eqb-true}
 use Rattle.nr_wire.specs.Constants.{OPCODE_READ_REQUEST}
+use Rattle.nr_wire.specs.declared.hello.Side.{Side}
+use Rattle.nr_wire.specs.declared.hello.Side.TheVariants.{Initiator, Responder}
 use Rattle.nr_wire.specs.declared.stream.Awaited.{Awaited}
 use Rattle.nr_wire.specs.declared.stream.Awaited.TheVariants.{Fpdu, Hello as HelloFrom}
 use Rattle.nr_wire.specs.Feeding.{feeding_after_step}
@@ -20,7 +22,7 @@ use Rattle.nr_link.specs.ReceiveState.{ReceiveState, ReadRequest, is_send, begun
 use Rattle.nr_endpoint.specs.LinkState.{LinkState, LinkSide, has_ended}
 use Rattle.nr_endpoint.specs.ReceiveQueue.{message_deliveries, with_segment as received_segment}
 use Rattle.nr_endpoint.specs.ReceiveQueue.DeliveredEvent.{MessageReceived}
-use Rattle.nr_endpoint.specs.Judging.{with_frame, with_peer_hello, with_fpdu, with_segment_by, with_effect, with_end_of, with_read_response, with_read_request, after_frame, segment_end, next_frame, next_segment}
+use Rattle.nr_endpoint.specs.Judging.{with_frame, with_peer_hello, with_hello_from, with_other_sizes, has_other_sizes, with_fpdu, with_segment_by, with_effect, with_end_of, with_read_response, with_read_request, after_frame, segment_end, next_frame, next_segment}
 use Rattle.nr_endpoint.specs.Calls.{after_call}
 use Rattle.nr_endpoint.specs.Calls.Call.{FeedOne}
 use Rattle.nr_requester.proofs.FrameSides.{TaggedFine, tagged_fine}
@@ -130,8 +132,18 @@ unfolding with_peer_hello
 by_hello s f (Ok hello) lives quiet none = record { held = λ c h. h; next = refl; lent = refl; reads = none; ended = λ e. quiet; waits = λ e. inl quiet }
 by_hello s f (Err reason) lives quiet none = end_leaves s _ quiet none
 
+-- it is refused if other lengths are agreed than before
+by_sizes : (s : LinkState) (f : Frame) (hello : Hello) (b : Bool) → s.ended ≡ None → s.receive_queue.deliveries ≡ [] → s.reads ≡ [] → Leaves s (cond b (with_other_sizes f s) (with_peer_hello f (Ok hello) s))
+by_sizes s f hello true lives quiet none = record { held = λ c h. h; next = refl; lent = refl; reads = none; ended = λ e. quiet; waits = λ e. inl quiet }
+by_sizes s f hello false lives quiet none = by_hello s f (Ok hello) lives quiet none
+
+by_hello_from : (side : Side) (s : LinkState) (f : Frame) (r : Result Hello ℕ) → s.ended ≡ None → s.receive_queue.deliveries ≡ [] → s.reads ≡ [] → Leaves s (with_hello_from side f r s)
+by_hello_from Initiator s f r lives quiet none = by_hello s f r lives quiet none
+by_hello_from Responder s f (Err reason) lives quiet none = by_hello s f (Err reason) lives quiet none
+by_hello_from Responder s f (Ok hello) lives quiet none = by_sizes s f hello (has_other_sizes Responder s hello.private) lives quiet none
+
 pub frame_leaves : (s : LinkState) (a : Awaited) (frame : List ℕ) → s.ended ≡ None → s.receive_queue.deliveries ≡ [] → s.reads ≡ [] → Leaves s (with_frame s a frame)
-frame_leaves s (HelloFrom side) frame lives quiet none = by_hello s (next_frame s frame) (hello_of side frame) lives quiet none
+frame_leaves s (HelloFrom side) frame lives quiet none = by_hello_from side s (next_frame s frame) (hello_of side frame) lives quiet none
 frame_leaves s Fpdu frame lives quiet none = by_segment s (next_frame s frame) (next_segment s frame) lives quiet none
 
 same_leaves : (s : LinkState) → s.receive_queue.deliveries ≡ [] → s.reads ≡ [] → Leaves s s

@@ -1,6 +1,8 @@
 -- A piece of the server's stream by the endpoint's own steps: one step, the deliveries that it made, and then what is left of the piece.
-use Rattle.std.proofs.Common.{◌≡◌, ℕ, Bool, true, false, List, [], ◌++◌, take, drop, Option, None, Some, Result, Ok, Err, refl, sym, ap, ◌∙◌}
+use Rattle.std.proofs.Common.{◌≡◌, ℕ, Bool, true, false, cond, List, [], ◌++◌, take, drop, Option, None, Some, Result, Ok, Err, refl, sym, ap, ◌∙◌}
 use Rattle.std.specs.Prelude.{is_some}
+use Rattle.nr_wire.specs.declared.hello.Side.{Side}
+use Rattle.nr_wire.specs.declared.hello.Side.TheVariants.{Initiator, Responder}
 use Rattle.nr_wire.specs.declared.stream.Awaited.{Awaited}
 use Rattle.nr_wire.specs.declared.stream.Awaited.TheVariants.{Hello as HelloFrom, Fpdu}
 use Rattle.nr_wire.specs.Feeding.{feeding_after, feeding_after_step, bytes_taken}
@@ -10,7 +12,7 @@ use Rattle.nr_wire.proofs.Feedings.{feeding_after_step-ended, feeding_after_step
 use Rattle.nr_link.specs.declared.end.End.{End}
 use Rattle.nr_endpoint.specs.LinkState.{LinkState, LinkSide}
 use Rattle.nr_endpoint.specs.LinkState.{has_ended as side_ended}
-use Rattle.nr_endpoint.specs.Judging.{with_frame, with_peer_hello, next_frame}
+use Rattle.nr_endpoint.specs.Judging.{with_frame, with_peer_hello, with_hello_from, with_other_sizes, has_other_sizes, next_frame}
 use Rattle.nr_endpoint.specs.Calls.{after_call}
 use Rattle.nr_endpoint.specs.Calls.Call.{FeedOne}
 use Rattle.nr_requester.specs.RequesterState.{RequesterState, RequesterFeeding}
@@ -33,11 +35,20 @@ unfolding with_peer_hello
 hello_quiet s f (Ok hello) e = e
 hello_quiet s f (Err reason) e = e
 
+sizes_quiet : (s : LinkState) (f : Rattle.nr_link.specs.Frames.Frame) (hello : Hello) (b : Bool) → s.receive_queue.deliveries ≡ [] → (cond b (with_other_sizes f s) (with_peer_hello f (Ok hello) s)).receive_queue.deliveries ≡ []
+sizes_quiet s f hello true e = e
+sizes_quiet s f hello false e = hello_quiet s f (Ok hello) e
+
+hello_from_quiet : (side : Side) (s : LinkState) (f : Rattle.nr_link.specs.Frames.Frame) (x : Result Hello ℕ) → s.receive_queue.deliveries ≡ [] → (with_hello_from side f x s).receive_queue.deliveries ≡ []
+hello_from_quiet Initiator s f x e = hello_quiet s f x e
+hello_from_quiet Responder s f (Err reason) e = hello_quiet s f (Err reason) e
+hello_from_quiet Responder s f (Ok hello) e = sizes_quiet s f hello (has_other_sizes Responder s hello.private) e
+
 frame_told : (r : RequesterState) (a : Awaited) (frame : List ℕ) → r.side.receive_queue.deliveries ≡ [] → after_frame r a frame ≡ unless_ended r (with_frame r.side a frame) (with_frame r.side a frame).ended
 unfolding after_fpdu
 frame_told r (HelloFrom side) frame e =
     let s = with_frame r.side (HelloFrom side) frame in
-    sym (none_delivered r s s.ended (hello_quiet r.side (next_frame r.side frame) (hello_of side frame) e))
+    sym (none_delivered r s s.ended (hello_from_quiet side r.side (next_frame r.side frame) (hello_of side frame) e))
 frame_told r Fpdu frame e = refl
 
 ended_told : (r : RequesterState) (end : Option End) → is_some end ≡ true → unless_ended r r.side end ≡ r

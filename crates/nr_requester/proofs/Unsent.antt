@@ -1,5 +1,5 @@
 -- How many calls' Sends haven't left: no fewer than wait in the queue.
-use Rattle.std.proofs.Common.{◌≡◌, ℕ, zero, suc, ◌+◌, ◌-◌, ◌^◌, ◌<◌, ◌≤◌, min, Bool, not, cond, List, [], ◌∷◌, ◌++◌, length, inl, inr, sym, ap, subst, ◌∙◌, arith}
+use Rattle.std.proofs.Common.{◌≡◌, ℕ, zero, suc, ◌+◌, ◌-◌, ◌^◌, ◌<◌, ◌≤◌, min, Bool, not, cond, List, [], ◌∷◌, ◌++◌, length, inl, inr, refl, sym, ap, subst, ◌∙◌, arith}
 use Rattle.std.specs.Prelude.{◌⊎◌, ◌≢◌}
 use Rattle.std.specs.List.{AllByRecursion}
 use Rattle.std.proofs.lemmas.Bool.{cases_lt, cases_eq, lt-ltb, le-ltb}
@@ -114,3 +114,8 @@ counts_sent sends end q after cs o left ends held number h =
       waiting = subst (λ (s : ℕ). length after.send_ends + length after.held ≤ length (unsent s (cs ++ o ∷ []))) (sym left) (omega (arith, one, count, same, h.waiting));
       numbered = omega (arith, left, count, h.numbered);
     }
+
+-- none has left: all wait
+pub all_unsent : (cs : List OutstandingCall) → length (unsent 0 cs) ≡ length cs
+all_unsent [] = refl
+all_unsent (c ∷ cs) = (let one = waits 0 c cs (omega arith) in omega (arith, one, all_unsent cs))

@@ -99,7 +99,7 @@ drain_taken h link link2 sent sent2 wished sends xid grant releases n items answ
 
 -- ---- After a call was sent
 
-map_one : (items : List OutstandingCall) (o : OutstandingCall) → map stored_view (items ++ o ∷ []) ≡ map stored_view items ++ stored_view o ∷ []
+pub map_one : (items : List OutstandingCall) (o : OutstandingCall) → map stored_view (items ++ o ∷ []) ≡ map stored_view items ++ stored_view o ∷ []
 map_one [] o = refl
 map_one (x ∷ items) o = ap (λ (xs : List StoredCall). stored_view x ∷ xs) (map_one items o)
 

@@ -19,6 +19,7 @@ use Rattle.nr_regions.specs.RegisteredMemory.{RegisteredMemory, initial_memory, 
 use Rattle.nr_regions.proofs.Totals.{sound_initial}
 use Rattle.nr_link.specs.declared.end.End.{End}
 use Rattle.nr_link.specs.Limits.{open_reads_max}
+use Rattle.nr_link.specs.declared.agreement.Agreement.{Agreement}
 use Rattle.nr_link.specs.declared.agreement.SideTerms.{SideTerms}
 use Rattle.nr_link.specs.Agreement.{initiator_private}
 use Rattle.nr_endpoint.specs.Hellos.{receive_length_for}
@@ -77,10 +78,10 @@ first_next : (first_stag : ℕ) → (initial_memory first_stag).next ≡ first_s
 unfolding initial_memory
 first_next first_stag = refl
 
-first_link : (size : ℕ → ℕ) (first_stag : ℕ) (terms : SideTerms) → 0 < first_stag → first_stag ≤ 2 ^ 32 →
-    LinkFits (receive_length_for terms) (initial_link Initiator 1 first_stag terms).state × RegionsHave size (initial_link Initiator 1 first_stag terms).state.memory 0
+first_link : (size : ℕ → ℕ) (first_stag : ℕ) (terms : SideTerms) (earlier : Option Agreement) → 0 < first_stag → first_stag ≤ 2 ^ 32 →
+    LinkFits (receive_length_for terms) (initial_link Initiator 1 first_stag terms earlier).state × RegionsHave size (initial_link Initiator 1 first_stag terms earlier).state.memory 0
 unfolding initial_link
-first_link size first_stag terms some fits =
+first_link size first_stag terms earlier some fits =
     let b = first_regions size first_stag fits in (
       record {
         side = refl;
@@ -89,7 +90,7 @@ first_link size first_stag terms some fits =
         receive = receive_small terms;
         up = (omega arith, omega arith);
         down = (omega arith, omega arith);
-        hello = hello_len Initiator (initiator_private terms) (initiator_short terms);
+        hello = (let short = hello_len Initiator (initiator_private terms) (initiator_short terms) in omega (arith, short));
         queue = λ n. omega arith;
         responses = omega arith;
         messages = tt;
@@ -99,26 +100,26 @@ first_link size first_stag terms some fits =
       b.1,
     )
 
-first_counts : (first_stag : ℕ) (terms : SideTerms) → CountsFit 0 (initial_link Initiator 1 first_stag terms).state.send_queue []
+first_counts : (first_stag : ℕ) (terms : SideTerms) (earlier : Option Agreement) → CountsFit 0 (initial_link Initiator 1 first_stag terms earlier).state.send_queue []
 unfolding initial_link
-first_counts first_stag terms = record { waiting = omega arith; numbered = omega arith }
+first_counts first_stag terms earlier = record { waiting = omega arith; numbered = omega arith }
 
-none_held_first : (first_stag next : ℕ) (terms : SideTerms) → 0 + length (initial_link Initiator 1 first_stag terms).state.send_queue.held ≤ next
+none_held_first : (first_stag next : ℕ) (terms : SideTerms) (earlier : Option Agreement) → 0 + length (initial_link Initiator 1 first_stag terms earlier).state.send_queue.held ≤ next
 unfolding initial_link
-none_held_first first_stag next terms = omega arith
+none_held_first first_stag next terms earlier = omega arith
 
-pub opened_within : (e : EndpointState) (len first_stag next : ℕ) (terms : SideTerms) (calls : List OutstandingCall) (answers : List AnsweredCall) → length e.staging ≡ FPDU_MAX → e.outside ≡ empty → e.link ≡ initial_link Initiator 1 first_stag terms → len ≡ receive_length_for terms →
-    0 < first_stag → first_stag < 2 ^ 32 → calls ≡ [] → answers ≡ [] → RequesterBounds len e 0 next calls answers
-opened_within e len first_stag next terms calls answers staging nothing is receives some fits none empty =
+pub opened_within : (e : EndpointState) (len first_stag next : ℕ) (terms : SideTerms) (earlier : Option Agreement) (calls : List OutstandingCall) (answers : List AnsweredCall) → length e.staging ≡ FPDU_MAX → e.outside ≡ empty → e.link ≡ initial_link Initiator 1 first_stag terms earlier → len ≡ receive_length_for terms →
+    0 < first_stag → first_stag ≤ 2 ^ 32 → calls ≡ [] → answers ≡ [] → RequesterBounds len e 0 next calls answers
+opened_within e len first_stag next terms earlier calls answers staging nothing is receives some fits none empty =
     let le : first_stag ≤ 2 ^ 32 = omega (arith, fits) in
     let all : RequesterBounds (receive_length_for terms) e 0 next [] [] = record {
       staging = staging;
-      outside = opened_outside e first_stag terms is nothing (omega (arith, fits));
+      outside = opened_outside e first_stag terms earlier is nothing (omega (arith, fits));
       numbers = tt;
-      order = subst (λ (x : LinkSide). 0 + length x.state.send_queue.held ≤ next) (sym is) (none_held_first first_stag next terms);
-      link = subst (λ (x : LinkSide). LinkFits (receive_length_for terms) x.state) (sym is) (first_link in_bytes first_stag terms some le).0;
-      regions = λ size counts. subst (λ (x : LinkSide). RegionsHave size x.state.memory 0) (sym is) (first_link size first_stag terms some le).1;
-      counts = subst (λ (x : LinkSide). CountsFit 0 x.state.send_queue []) (sym is) (first_counts first_stag terms);
+      order = subst (λ (x : LinkSide). 0 + length x.state.send_queue.held ≤ next) (sym is) (none_held_first first_stag next terms earlier);
+      link = subst (λ (x : LinkSide). LinkFits (receive_length_for terms) x.state) (sym is) (first_link in_bytes first_stag terms earlier some le).0;
+      regions = λ size counts. subst (λ (x : LinkSide). RegionsHave size x.state.memory 0) (sym is) (first_link size first_stag terms earlier some le).1;
+      counts = subst (λ (x : LinkSide). CountsFit 0 x.state.send_queue []) (sym is) (first_counts first_stag terms earlier);
       each = tt;
       kept = tt;
       distinct = tt;
@@ -129,7 +130,7 @@ opened_within e len first_stag next terms calls answers staging nothing is recei
 
 -- ---- A call more
 
-all_append : (P : OutstandingCall → Type 0) (xs : List OutstandingCall) (o : OutstandingCall) → AllByRecursion P xs → P o → AllByRecursion P (xs ++ o ∷ [])
+pub all_append : (P : OutstandingCall → Type 0) (xs : List OutstandingCall) (o : OutstandingCall) → AllByRecursion P xs → P o → AllByRecursion P (xs ++ o ∷ [])
 all_append P [] o h one = (one, tt)
 all_append P (x ∷ xs) o h one = (h.0, all_append P xs o h.1 one)
 
@@ -168,7 +169,24 @@ sent_state size counts s plan len xid credit total i lives stags l have =
       after.1,
     )
 
-sum_sent : (size : ℕ → ℕ) (calls : List OutstandingCall) (o : OutstandingCall) (claims : Claims) → o.claims ≡ claims → claims_total size calls + claims_size size claims ≡ claims_total size (calls ++ o ∷ [])
+-- a call that is sent by its plan
+pub call_fits : (len : ℕ) (m : RegisteredMemory) (plan : Plan) (o : OutstandingCall) → len ≤ receive_max → IsPlan plan → o.claims ≡ claims_of m (offered_of plan) → o.offered ≡ lists_of m.next plan → stored_bytes o.call ≤ call_max → o.room.bytes ≡ [] →
+    o.room.len ≡ reply_room len o.offered → o.room.len ≤ len + (total plan.write + (total plan.reply + 3)) → CallFits len o
+call_fits len m plan o receive i claims lists small empty offered room =
+    let fits : PlanFits plan = plan_bounds i.payload i.form i.up i.down plan i.is in
+    let own : claims_len o.claims ≡ claims_len (claims_of m (offered_of plan)) = ap (λ (c : Claims). claims_len c) claims in
+    let short = plan_len m plan fits in
+    record {
+      call = small;
+      offer = omega (arith, own, short);
+      segments = subst (λ (l : ChunkLists). segments_offered l ≤ offered_segments_max) (sym lists) (plan_segments i.payload i.form i.up i.down m.next plan i.short i.is);
+      writes = subst (λ (l : ChunkLists). length l.write ≤ 1) (sym lists) (plan_writes m.next plan);
+      written = (let none : length o.room.bytes ≡ 0 = ap (λ (xs : List ℕ). length xs) empty in omega (arith, none));
+      room = offered;
+      short = (let back = fits.back in omega (arith, room, back, receive));
+    }
+
+pub sum_sent : (size : ℕ → ℕ) (calls : List OutstandingCall) (o : OutstandingCall) (claims : Claims) → o.claims ≡ claims → claims_total size calls + claims_size size claims ≡ claims_total size (calls ++ o ∷ [])
 sum_sent size calls o claims is = omega (arith, ap (λ (c : Claims). claims_size size c) is, total_append size calls o)
 
 pub sent_within : (e e2 : EndpointState) (len sends next xid credit : ℕ) (calls calls2 : List OutstandingCall) (answers answers2 : List AnsweredCall) (o : OutstandingCall) (plan : Plan) → RequesterBounds len e sends next calls answers → e2.staging ≡ e.staging → (NothingOutside e → NothingOutside e2) →
@@ -180,10 +198,7 @@ sent_within e e2 len sends next xid credit calls calls2 answers answers2 o plan 
     let state : e2.link.state ≡ after = ap (λ (l : LinkSide). l.state) link_is in
     let sent : (size : ℕ → ℕ) → IsCount size → LinkFits len after × RegionsHave size after.memory (claims_total size calls + claims_size size (claims_of s.memory (offered_of plan))) =
     λ size is. sent_state size is s plan len xid credit (claims_total size calls) i lives stags w.link (w.regions size is) in
-    let own : claims_len o.claims ≡ claims_len (claims_of s.memory (offered_of plan)) = ap (λ (c : Claims). claims_len c) claims in
     let sum : (size : ℕ → ℕ) → claims_total size calls + claims_size size (claims_of s.memory (offered_of plan)) ≡ claims_total size (calls ++ o ∷ []) = λ size. sum_sent size calls o _ claims in
-    let fits : PlanFits plan = plan_bounds i.payload i.form i.up i.down plan i.is in
-    let short = plan_len s.memory plan fits in
     let alone : sends + length s.send_queue.held ≡ sends = omega (arith, unheld) in
     let all : RequesterBounds len e2 (sends + 1) (next + 1) (calls ++ o ∷ []) answers = record {
       staging = ap (λ (xs : List ℕ). length xs) same ∙ w.staging;
@@ -195,7 +210,7 @@ sent_within e e2 len sends next xid credit calls calls2 answers answers2 o plan 
       regions = λ size is. subst (λ (x : LinkState). RegionsHave size x.memory (claims_total size (calls ++ o ∷ []))) (sym state) (subst (λ (n : ℕ). RegionsHave size after.memory n) (sum size) (sent size is).1);
       counts = subst (λ (x : LinkState). CountsFit (sends + 1) x.send_queue (calls ++ o ∷ [])) (sym state)
           (counts_sent sends _ s.send_queue after.send_queue calls o refl refl refl number w.counts);
-      each = all_append (CallFits len) calls o w.each (record { call = small; offer = omega (arith, own, short); segments = subst (λ (l : ChunkLists). segments_offered l ≤ offered_segments_max) (sym lists) (plan_segments i.payload i.form i.up i.down s.memory.next plan i.short i.is); writes = subst (λ (l : ChunkLists). length l.write ≤ 1) (sym lists) (plan_writes s.memory.next plan); written = (let none : length o.room.bytes ≡ 0 = ap (λ (xs : List ℕ). length xs) empty in omega (arith, none)); room = offered; short = (let back = fits.back in omega (arith, room, back, w.link.receive)) });
+      each = all_append (CallFits len) calls o w.each (call_fits len s.memory plan o w.link.receive i claims lists small empty offered room);
       kept = w.kept;
       distinct = w.distinct;
     } in
@@ -238,7 +253,7 @@ drained_link len s n l = record {
   receive = l.receive;
   up = l.up;
   down = l.down;
-  hello = omega (arith, l.hello, written_hello n s.send_queue);
+  hello = (let short = l.hello in omega (arith, short, written_hello n s.send_queue));
   queue = written_fits (has_ended s) n s.send_queue l.queue;
   responses = written_responses n s.send_queue l.responses;
   messages = written_messages n s.send_queue l.messages;

@@ -185,7 +185,7 @@ pub record LinkFits (len : ℕ) (s : LinkState) : Type 0 where
   pub receive : len ≤ receive_max
   pub up : IsSendLimit s.agreed.up
   pub down : IsSendLimit s.agreed.down
-  pub hello : length s.send_queue.hello ≤ hello_max
+  pub hello : length s.send_queue.hello ≤ hello_max + last_max (has_ended s)
   pub queue : QueueFits (has_ended s) s.send_queue
   pub responses : length s.send_queue.response_ends ≤ open_reads_max
   pub messages : AllByRecursion FitsSend s.send_queue.held

@@ -23,3 +23,6 @@ pub mod Reopening
 pub mod ReopenedLinks
 pub mod Resends
 pub mod private
+pub mod KeptOn
+pub mod KeptLaw
+pub mod EarlierLinks

@@ -91,6 +91,7 @@ pub record OpensNext (next : LinkParameters) (r : RequesterState) (a : CallsAgai
   pub xid : r.next_xid ≡ next.first_xid
   pub wished : r.wished ≡ next.wished
   pub terms : r.side.terms ≡ next.client
+  pub agreed : last_agreed r.side ≡ next.agreed
 
 -- A requester that stands for the marks of its link, which has kept the client's law and hasn't ended, keeps what its next link is opened with.
 abbrev pub CallsGoOn : Type 0

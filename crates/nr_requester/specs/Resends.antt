@@ -43,10 +43,15 @@ resent_unless None h = with_resends h
 unfoldable pub after_feed : RequesterSide → (piece staging : List ℕ) → RequesterSide
 after_feed h piece staging = resent_unless (after_fed h piece staging).state.side.ended (after_fed h piece staging)
 
--- So it stands for a Fed of the piece, and for the Submits of these calls.
+-- For every list of marks that the first one stood for, the second stands for that list with a Fed of a piece, and with the Submits of all calls that
+-- can be sent again then.
+abbrev pub KeepsPiece : RequesterSide → (piece : List ℕ) → RequesterSide → Type 0
+KeepsPiece before piece after = (is_own : ℕ → Bool) (earlier : ℕ) (opened : LinkParameters) (link : ℕ) (run : List Mark) → RequesterKeeps is_own earlier opened link before run →
+    RequesterKeeps is_own earlier opened link after (run ++ marks.Fed link Initiator piece ∷ resends_after opened link (run ++ marks.Fed link Initiator piece ∷ []))
+
+-- So it is after a feed.
 abbrev pub FeedIsMarks : Type 0
-FeedIsMarks = (h : RequesterSide) (piece staging : List ℕ) (is_own : ℕ → Bool) (earlier : ℕ) (opened : LinkParameters) (link : ℕ) (run : List Mark) → RequesterKeeps is_own earlier opened link h run →
-    RequesterKeeps is_own earlier opened link (after_feed h piece staging) (run ++ marks.Fed link Initiator piece ∷ resends_after opened link (run ++ marks.Fed link Initiator piece ∷ []))
+FeedIsMarks = (h : RequesterSide) (piece staging : List ℕ) → KeepsPiece h piece (after_feed h piece staging)
 
 -- On a link that wasn't reopened none waits.
 abbrev pub FirstLinksResendNone : Type 0

@@ -9,6 +9,7 @@ use Rattle.nr_requester.specs.AfterCalls.{after_revoke, after_forget}
 use Rattle.nr_requester.specs.Buffers.{bytes_of_buffers}
 use Rattle.nr_requester.specs.OpenCalls.{found_answer, open_call, buffers_of, KeepsTickets, ClosesTicket}
 use Rattle.nr_requester.specs.Standing.{StandsOn, StaysOut, StopsRevoked}
+use Rattle.nr_requester.specs.ReopenedLinks.{KeepsOn}
 
 -- Done if and only if a message brought an outcome: the call, its buffers and the outcome go to the owner. Else Failed if and only if the link has
 -- ended: the call goes back with its buffers, and its regions are released. Else NotYet, and nothing changes.
@@ -31,6 +32,12 @@ abbrev pub TakeStands : RequesterSide → ℕ → Take → RequesterSide → Typ
 TakeStands before xid (takes.Done done) after = StandsOn before (λ link. marks.Done link xid done.outcome) after × StaysOut before (λ link. marks.Done link xid done.outcome) after
 TakeStands before xid (takes.NotYet ticket) after = Unit {0}
 TakeStands before xid (takes.Failed call buffers end) after = StandsOn before (λ link. marks.Lost link xid) after × StopsRevoked before xid (bytes_of_buffers buffers) after
+
+-- The same of a requester of a link that may be one that was reopened.
+abbrev pub TakeKeeps : RequesterSide → ℕ → Take → RequesterSide → Type 0
+TakeKeeps before xid (takes.Done done) after = KeepsOn before (λ link. marks.Done link xid done.outcome) after
+TakeKeeps before xid (takes.NotYet ticket) after = Unit {0}
+TakeKeeps before xid (takes.Failed call buffers end) after = KeepsOn before (λ link. marks.Lost link xid) after
 
 -- a call that is lost is a mark
 abbrev pub LostIsAMark : Type 0

@@ -1,12 +1,12 @@
 //! A call is made again of what is kept of it: its message and its buffers, under new STags.
 
-ghost use Rattle.std.specs.Prelude.{◌≡◌, ℕ, ◌+◌, ◌^◌, ◌<◌, ◌≤◌, List, [], length, ◌++◌, sum, None, Some, IfOk, OnOk, OnErr, option_map};
+ghost use Rattle.std.specs.Prelude.{◌≡◌, ℕ, ◌+◌, ◌^◌, ◌<◌, ◌≤◌, List, [], length, ◌++◌, sum, None, Some, IfSome, IfOk, OnOk, OnErr, option_map, Option};
 ghost use Rattle.nr_rpc.specs.Credential.{CanWriteCred};
 ghost use Rattle.nr_header.specs.Slices.{lists_of_slices};
 ghost use Rattle.nr_endpoint.specs.Offering.{claims_of};
 ghost use Rattle.nr_reduce.specs.Plans.{regions_needed, lists_of, total};
 ghost use Rattle.nr_reduce.specs.PlansByLists.{segment_lengths, entry_lengths, write_lengths};
-ghost use Rattle.nr_reduce.specs.CallOutlines.{chunk_lengths, outline_plan};
+ghost use Rattle.nr_reduce.specs.CallOutlines.{chunk_lengths, outline_plan, outline_plan_by};
 ghost use Rattle.nr_requester.specs.Sending.{IsPlan, offered_of, head_under, call_plan};
 ghost use Rattle.nr_requester.specs.HeldClaims.{SentHeld, IsOfferOf};
 ghost use Rattle.nr_requester.specs.HeldBytes.{receive_max, NothingOutside};
@@ -122,8 +122,7 @@ impl OfferedLengths {
     }
 
     fn read_outline(&self, read_at: Option<u32>) -> Option<ReadOutline<'_>>
-        requires few { length self.now.read.items < 2 ^ 31 }
-        requires short { sum self.now.read.items < 2 ^ 32 }
+        requires { IfSome read_at (λ _. (length self.now.read.items < 2 ^ 31) × (sum self.now.read.items < 2 ^ 32)) }
         ensures { (payload : List ℕ) (write reply : Option (List ℕ)) → outline_plan_by payload result write reply ≡ plan_by_lengths payload read_at self.now.read.items write reply }
     {
         match read_at {
@@ -138,8 +137,7 @@ impl OfferedLengths {
 
     /// How the call is sent, if its read chunk has this position.
     fn outline(&self, read_at: Option<u32>) -> Outline<'_>
-        requires few { length self.now.read.items < 2 ^ 31 }
-        requires short { sum self.now.read.items < 2 ^ 32 }
+        requires { IfSome read_at (λ _. (length self.now.read.items < 2 ^ 31) × (sum self.now.read.items < 2 ^ 32)) }
         ensures { (payload : List ℕ) → outline_plan payload result ≡ plan_by_lengths payload read_at self.now.read.items (option_map (λ v. v.items) self.now.write) (option_map (λ v. v.items) self.now.reply) }
     {
         Outline {
@@ -253,12 +251,14 @@ fn resume_planned(
     endpoint: &mut Endpoint,
     credit: u32,
     receive_length: u32,
+    xid: u32,
     call: &Call,
     stored: &OutstandingCall,
     head: &[u8],
     lengths: &OfferedLengths,
 ) -> Result<SentCall, Memory>
     requires receive { receive_length ≤ receive_max }
+    requires xid { xid ≡ stored.now.xid }
     requires live { endpoint.old.link.state.ended ≡ None }
     requires head { head.now ≡ head_under stored.now.xid call.now }
     requires read { lengths.now.read.items ≡ entry_lengths stored.now.offered.read }
@@ -280,7 +280,7 @@ fn resume_planned(
     hold_with_room(
         alloc,
         endpoint,
-        stored.xid,
+        xid,
         credit,
         PlannedCall {
             head,
@@ -315,7 +315,8 @@ pub fn resume_call(
     ensures staging { endpoint.new.staging ≡ endpoint.old.staging }
     ensures outside { OnOk result (NothingOutside endpoint.old → NothingOutside endpoint.new) }
 {
-    let head = write_call_head(alloc, target_under(u64::from(stored.xid), call), &call.cred)?;
+    let xid = stored.xid;
+    let head = write_call_head(alloc, target_under(u64::from(xid), call), &call.cred)?;
     let lengths = match OfferedLengths::of(alloc, stored.offered.as_slices()) {
         Ok(lengths) => lengths,
         Err(memory) => {
@@ -328,6 +329,7 @@ pub fn resume_call(
         endpoint,
         credit,
         receive_length,
+        xid,
         call,
         stored,
         head.as_slice(),

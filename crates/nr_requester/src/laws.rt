@@ -1,8 +1,11 @@
 //! Laws of a requester.
 
-ghost use Rattle.nr_requester.specs.Reopening.{AnswersStay, CallsGoOn, NextBegins};
+ghost use Rattle.nr_requester.specs.Reopening.{CallsGoOn, NextBegins};
 ghost use Rattle.nr_requester.specs.ReopenedLinks.{FirstLinksAreKept};
-ghost use Rattle.nr_requester.specs.Resends.{ResendIsAMark, ResendsAreMarks};
+ghost use Rattle.nr_requester.specs.Resends.{FeedIsMarks, FirstLinksResendNone};
+ghost use Rattle.nr_requester.specs.EarlierLinks.{EarlierGoes, EarlierCounts, EarlierStays};
+ghost use Rattle.nr_requester.specs.KeptLaw.{SubmitLaw, DrainLaw, QueueLaw, OpenLaw, AwaitedLaw, RevokeLaw, ForgetLaw, DoneLaw, LostLaw};
+ghost use Rattle.nr_requester.specs.KeptOn.{SubmitKeepsOn, DrainKeepsOn, RevokeKeepsOn, ForgetKeepsOn, DoneKeepsOn, LostKeepsOn, OthersKeepOn, AnswersAsKept, BuffersAreKept, FirstIsKept};
 ghost use Rattle.nr_requester.specs.Laws.{Begins, AnswersAsClient, AgreesAsClient, AgreesOut, CountsAsClient, CountsMarks, SubmitIsAMark, PieceIsAMark, PieceRunsOut, DrainIsAMark, RevokeIsAMark, RevokeStaysOut, ForgetIsAMark, DoneIsAMark, AnswersAreDue, AnswersOut, EndAsClient, FirstIsDueFirst, FirstOut, OthersLeaveIt, MemoryAsClient, MemoryOut, CountsOut, CountsMarksOut, RefusesOut, PieceStaysOut, OthersStayOut, LawBegins, OthersKeepLaw, RevokeKeepsLaw, BuffersArePlaced, RevokedOut, SubmitKeepsLaw, DrainKeepsLaw, DrainOutKeepsLaw, QueueIsAllDue, RefusedKeepsLaw, PieceKeepsLaw, DrainKeepsGrant, OpenIsAwaited, OpenOut, AwaitedIsOpen, AwaitedOut, ForgetKeepsLaw, ForgetOutKeepsLaw, DoneKeepsLaw, DoneOutKeepsLaw, LostKeepsLaw, NamedRegionIsNotCounted};
 
 /// A requester stands for the marks of its link, from its opening on: what it keeps is what the client of the run asks for, and what it
@@ -74,17 +77,55 @@ pub fn releases_are_counted()
 
 /// A requester that stands for the marks of its link, has kept the client's law and hasn't ended, keeps what its next link is opened with: each
 /// call whose answer is awaited, under its xid, by the plan by which it was sent, with its regions under STags that are new; and the messages of
-/// their Sends. It keeps the answers of the link that it leaves. So it
-/// stands for no marks of the next link. There it stands for the Submits of the calls that it sends again, as its grant allows.
+/// their Sends. So it stands for no marks of the next link, if that can be opened, and keeps the answers of the link that it left.
 pub fn calls_go_on()
     ensures next { CallsGoOn }
-    ensures answers { AnswersStay }
     ensures begins { NextBegins }
-    ensures resent { ResendIsAMark }
-    ensures all { ResendsAreMarks }
 {}
 
-/// A requester that stands for the marks of its first link keeps what one keeps of a link that may be one of several.
+/// A requester that stands for the marks of its link, which may be one that was reopened, goes on from mark to mark: through a call that it
+/// accepts, a drain, a revoke, an answer that is given up or handed over, a call that is lost, and each mark that is no event of it. Through a piece
+/// of the server's stream it goes on with the Submits of all calls that can be sent again then. It answers a call as the client of the run
+/// does, and what a revoke hands back is what the regions of the call hold.
+pub fn reopened_links_go_on()
+    ensures submit { SubmitKeepsOn }
+    ensures drain { DrainKeepsOn }
+    ensures feed { FeedIsMarks }
+    ensures revoke { RevokeKeepsOn }
+    ensures forget { ForgetKeepsOn }
+    ensures done { DoneKeepsOn }
+    ensures lost { LostKeepsOn }
+    ensures others { OthersKeepOn }
+    ensures answer { AnswersAsKept }
+    ensures buffers { BuffersAreKept }
+    ensures first { FirstIsKept }
+{}
+
+/// On such a link it keeps the client's law and the last grant, from mark to mark: by a call that it accepts, a drain, a revoke, an answer that is
+/// given up or handed over, and a call that is lost. All that it may write is all that is due, and a ticket of the link is open if and only if
+/// its call is awaited or waits to be sent again.
+pub fn reopened_links_keep_their_law()
+    ensures submit { SubmitLaw }
+    ensures drain { DrainLaw }
+    ensures queue { QueueLaw }
+    ensures open { OpenLaw }
+    ensures awaited { AwaitedLaw }
+    ensures revoke { RevokeLaw }
+    ensures forget { ForgetLaw }
+    ensures done { DoneLaw }
+    ensures lost { LostLaw }
+{}
+
+/// A requester that stands for the marks of its first link keeps what one keeps of a link that may be one of several, and sends nothing again.
 pub fn first_links_are_kept()
-    ensures { FirstLinksAreKept }
+    ensures kept { FirstLinksAreKept }
+    ensures none { FirstLinksResendNone }
+{}
+
+/// What a requester keeps of a link that it left stays through marks of other links, and through an answer of that link that is handed over, given up
+/// or revoked. The present link counts such a mark with those before it.
+pub fn earlier_links_are_kept()
+    ensures goes { EarlierGoes }
+    ensures counts { EarlierCounts }
+    ensures stays { EarlierStays }
 {}

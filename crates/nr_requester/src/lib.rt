@@ -18,11 +18,13 @@
 //! answers, and that the value stands for that list with the marks of the call.
 #![tactic(auto)]
 
+mod again;
 mod answer;
 mod dismantling;
 mod holding;
 mod judging;
 mod laws;
+mod leaving;
 mod messages;
 mod offered;
 mod outstanding;
@@ -30,6 +32,7 @@ mod pieces;
 mod releasing;
 mod replies;
 mod requester;
+mod resending;
 mod revoking;
 mod submitting;
 mod taking;

@@ -289,7 +289,7 @@ pub fn message_of<'a>(
 
 // ---- The buffers
 
-fn sum_of(lengths: &[u32]) -> u64
+pub fn sum_of(lengths: &[u32]) -> u64
     requires { length lengths.now < 2 ^ 31 }
     ensures { result ≡ sum lengths.now }
 {

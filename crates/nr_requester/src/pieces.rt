@@ -24,6 +24,7 @@ ghost use Rattle.nr_requester.specs.Judged.{outcome_by, LiesWithin};
 ghost use Rattle.nr_requester.specs.Fed.{answer_with, CallsSound, IsReady, StopsDead, TakesMessage, TakesEvent, IsStep, TakesFrames, RequesterRanOutAt, fed_bytes, taken_by, late_marks};
 ghost use Rattle.nr_requester.specs.HeldBytes.{NothingOutside, IsBounded};
 ghost use Rattle.nr_requester.specs.OpenCalls.{KeepsTickets};
+ghost use Rattle.nr_requester.specs.Resends.{after_feed, KeepsPiece};
 ghost use Rattle.nr_requester.specs.Standing.{StandsOn, RequesterRepresents, RequesterRunsOut};
 ghost use Rattle.nr_requester.specs.Views.{stored_view};
 
@@ -334,9 +335,8 @@ impl Requester {
         }
     }
 
-    /// Takes a piece of the server's stream. `Err` if the side has ended, with why. It takes memory only for a frame at which it queues
-    /// something of its own: a Read Response, or what it writes last. If memory runs out, the side ends as it was before such a frame.
-    pub fn feed(&mut self, piece: &[u8]) -> Result<(), End>
+    /// Takes a piece of the server's stream, and sends no call again.
+    fn take_piece(&mut self, piece: &[u8]) -> Result<(), End>
         requires { fed_bytes self.old + length piece.now ≤ 2 ^ 62 }
         ensures ended { result_err result ≡ self.new.state.side.ended }
         ensures state { result ≢ Err ends.Memory → self.new ≡ after_fed self.old piece.now self.new.staging }
@@ -361,5 +361,32 @@ impl Requester {
             return Err(end);
         }
         Ok(())
+    }
+
+    /// Takes a piece of the server's stream. `Err` if the side has ended, with why. It takes memory only for a frame at which it queues
+    /// something of its own: a Read Response, or what it writes last. If memory runs out, the side ends as it was before such a frame. After
+    /// `reopen`, if the side hasn't ended, it then sends calls again, in the order of their xids, as the grant allows; that takes no memory.
+    pub fn feed(&mut self, piece: &[u8]) -> Result<(), End>
+        requires { fed_bytes self.old + length piece.now ≤ 2 ^ 62 }
+        ensures ended { result_err result ≡ self.new.state.side.ended }
+        ensures state { result ≢ Err ends.Memory → self.new ≡ after_feed self.old piece.now self.new.staging }
+        ensures stands { result ≢ Err ends.Memory → StandsOn self.old (λ link. marks.Fed link Initiator piece.now) self.new }
+        ensures keeps { result ≢ Err ends.Memory → KeepsPiece self.old piece.now self.new }
+        ensures memory { result ≡ Err ends.Memory → self.old.state.side.ended ≡ None → (n : ℕ) × (RequesterRanOutAt (feeding_of self.old) piece.now n (feeding_of self.new)
+            × ((opened : LinkParameters) (link : ℕ) (run : List Mark) → RequesterRepresents opened link self.old run →
+            RequesterRunsOut opened link self.new (run ++ marks.Fed link Initiator (take n piece.now) ∷ []) (run ++ marks.Fed link Initiator (take n piece.now) ∷ []))) }
+        ensures kept { is_some self.old.state.side.ended ≡ true → (feeding_of self.new ≡ feeding_of self.old) × (self.new.staging ≡ self.old.staging) }
+        ensures out { self.old.state.side.ended ≡ Some ends.Memory → self.new ≡ self.old }
+        ensures staging { KeepsStaging self.old self.new piece.now }
+        ensures tickets { KeepsTickets self.old.state self.new.state }
+        ensures within { fed_bytes self.new ≤ fed_bytes self.old + length piece.now }
+    {
+        match self.take_piece(piece) {
+            Ok(()) => {
+                self.resend();
+                Ok(())
+            }
+            Err(end) => Err(end),
+        }
     }
 }

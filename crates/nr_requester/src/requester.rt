@@ -18,6 +18,7 @@ ghost use Rattle.nr_reduce.specs.Run.{client};
 ghost use Rattle.nr_requester.specs.RequesterState.{queue_of};
 ghost use Rattle.nr_requester.specs.Standing.{RequesterRepresents, StandsOn, StaysOut};
 ghost use Rattle.nr_requester.specs.Fed.{fed_bytes};
+ghost use Rattle.nr_requester.specs.ReopenedLinks.{KeepsOn};
 ghost use Rattle.nr_requester.specs.KeptLists.{ListsFit};
 ghost use Rattle.nr_requester.specs.OpenCalls.{found_call, found_answer, IsFresh, KeepsTickets};
 ghost use Rattle.nr_endpoint.specs.LinkState.{has_ended};
@@ -214,6 +215,14 @@ impl Requester {
         self.outstanding.len()
     }
 
+    /// How many of them wait to be sent again: they were outstanding when the last connection was left (`reopen`), and the grant of this one
+    /// didn't allow it yet. Takes no memory.
+    pub fn waiting(&self) -> usize
+        ensures { result ≡ length self.now.state.side.send_queue.held }
+    {
+        self.endpoint.sends_held()
+    }
+
     /// How many credits the server grants: 1 before its first message.
     pub fn grant(&self) -> u32
         ensures { result ≡ self.now.state.grant }
@@ -308,7 +317,8 @@ impl Requester {
             × (self.new ≡ after_drain n self.old)
             × StandsOn self.old (λ link. marks.Wrote link Initiator (take n (queue_of self.old.state))) self.new
             × StaysOut self.old (λ link. marks.Wrote link Initiator (take n (queue_of self.old.state))) self.new
-            × OnOk result (n ≡ length (queue_of self.old.state)) }
+            × OnOk result (n ≡ length (queue_of self.old.state))
+            × KeepsOn self.old (λ link. marks.Wrote link Initiator (take n (queue_of self.old.state))) self.new }
         ensures tickets { KeepsTickets self.old.state self.new.state }
         ensures fed { fed_bytes self.new ≡ fed_bytes self.old }
         ensures counted { MatchResult result

@@ -14,6 +14,7 @@ ghost use Rattle.nr_requester.specs.HeldClaims.{all_claims};
 ghost use Rattle.nr_requester.specs.Fed.{fed_bytes};
 ghost use Rattle.nr_requester.specs.OpenCalls.{open_call, remaining_call, buffers_of, ClosesTicket};
 ghost use Rattle.nr_requester.specs.Standing.{StandsOn, StopsRevoked};
+ghost use Rattle.nr_requester.specs.ReopenedLinks.{KeepsOn};
 ghost use Rattle.nr_requester.specs.Views.{given_up};
 
 use crate::answer::Buffers;
@@ -86,6 +87,7 @@ impl Requester {
         ensures state { self.new ≡ after_revoke self.old ticket }
         ensures number { ticket < self.old.state.next_xid }
         ensures stands { StandsOn self.old (λ link. marks.Revoke link ticket (bytes_of_buffers result.1)) self.new }
+        ensures keeps { KeepsOn self.old (λ link. marks.Revoke link ticket (bytes_of_buffers result.1)) self.new }
         ensures out { StopsRevoked self.old ticket (bytes_of_buffers result.1) self.new }
         ensures tickets { ClosesTicket ticket self.old.state self.new.state }
         ensures fed { fed_bytes self.new ≡ fed_bytes self.old }

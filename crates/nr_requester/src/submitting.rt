@@ -18,6 +18,7 @@ ghost use Rattle.nr_requester.specs.Sending.{IsPlan, HasNumbers, has_credit, lea
 ghost use Rattle.nr_requester.specs.HeldClaims.{SentHeld, IsOfferOf};
 ghost use Rattle.nr_requester.specs.HeldBytes.{call_bytes, call_max, receive_max, NothingOutside};
 ghost use Rattle.nr_requester.specs.Standing.{StandsOn};
+ghost use Rattle.nr_requester.specs.ReopenedLinks.{KeepsOn};
 ghost use Rattle.nr_requester.specs.Fed.{fed_bytes};
 ghost use Rattle.nr_requester.specs.OpenCalls.{OpensTicket};
 
@@ -36,7 +37,7 @@ use nr_xdr::{Memory, Octets};
 use std::alloc::Global;
 
 /// How many numbers there are.
-const NUMBERS_END: u64 = 4294967296;
+pub(crate) const NUMBERS_END: u64 = 4294967296;
 
 /// The xids of a client's outstanding calls, and the next one, are fewer than this apart.
 const WINDOW: u64 = 64;
@@ -304,7 +305,7 @@ fn free_xid(next_xid: u64) -> u32
 }
 
 /// What a call asks for under the next xid.
-fn target_under(next_xid: u64, call: &Call) -> CallTarget
+pub(crate) fn target_under(next_xid: u64, call: &Call) -> CallTarget
     ensures { result ≡ target_under next_xid call.now }
 {
     CallTarget {
@@ -424,6 +425,7 @@ impl Requester {
         ensures returned { IfErr result (λ e. e.0 ≡ call) }
         ensures err { OnErr result (self.new ≡ self.old) }
         ensures stands { IfOk result (λ xid. StandsOn self.old (λ link. marks.Submit link call form (submissions.Accepted xid)) self.new) }
+        ensures keeps { IfOk result (λ xid. KeepsOn self.old (λ link. marks.Submit link call form (submissions.Accepted xid)) self.new) }
         ensures tickets { IfOk result (λ xid. OpensTicket xid call self.old.state self.new.state) }
         ensures fed { fed_bytes self.new ≡ fed_bytes self.old }
     {

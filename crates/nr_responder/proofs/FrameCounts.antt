@@ -13,6 +13,7 @@ use Rattle.nr_endpoint.specs.ReceiveQueue.{with_segment}
 use Rattle.nr_endpoint.specs.SendQueue.{SendQueue, with_end}
 use Rattle.nr_endpoint.specs.LinkState.{LinkState}
 use Rattle.nr_endpoint.specs.Judging.{segment_end, next_frame, next_segment, with_frame, with_fpdu, with_segment_by, with_effect, with_peer_hello, with_read_response, with_read_request}
+use Rattle.nr_endpoint.proofs.HellosFrom.{hello_from}
 use Rattle.nr_responder.proofs.Responses.{placed_next}
 
 -- a frame leaves the counts of receives, the offsets at which the Sends end, and the next STag
@@ -60,5 +61,7 @@ hello_counts s f (Ok hello) = record { next = refl; lent = refl; receives = refl
 hello_counts s f (Err reason) = record { next = refl; lent = refl; receives = refl; receive_length = refl; ends_are = refl }
 
 pub frame_counts : (s : LinkState) (a : Awaited) (frame : List ℕ) → SameCounts s (with_frame s a frame)
-frame_counts s (HelloFrom side) frame = hello_counts s (next_frame s frame) (hello_of side frame)
+frame_counts s (HelloFrom side) frame =
+    hello_from (SameCounts s) side (next_frame s frame) (hello_of side frame) s (hello_counts s (next_frame s frame) (hello_of side frame))
+    (record { next = refl; lent = refl; receives = refl; receive_length = refl; ends_are = refl })
 frame_counts s Fpdu frame = fpdu_counts s (next_frame s frame) (next_segment s frame)

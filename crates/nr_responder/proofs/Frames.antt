@@ -1,6 +1,6 @@
 -- A frame that ends a responder for the rules of the link, and the client's hello.
 use Rattle.std.proofs.Common.{◌≡◌, ◌≢◌, ℕ, ◌+◌, ◌<◌, ◌≤◌, Bool, true, false, eqb, cond, List, [], ◌++◌, length, take, drop, Option, Some, None, Result, Ok, Err, refl, sym, ap, subst, ◌∙◌, arith, inl, inr, is_some}
-use Rattle.std.specs.Prelude.{IfSome, map}
+use Rattle.std.specs.Prelude.{◌⊎◌, IfSome, map}
 use Rattle.std.proofs.lemmas.Bool.{ne_eqb, eq-eqb, lt-ltb}
 use Rattle.nr_wire.specs.declared.hello.Side.{Side}
 use Rattle.nr_wire.specs.declared.hello.Side.TheVariants.{Initiator, Responder}
@@ -22,10 +22,11 @@ use Rattle.nr_reduce.specs.Hellos.{private_of, server_private, server_hello, ser
 use Rattle.nr_link.specs.Ending.{final_output, frame_end, hello_end, last_output}
 use Rattle.nr_endpoint.specs.SendQueue.{with_end, with_hello, writable}
 use Rattle.nr_endpoint.specs.LinkState.{LinkState, LinkSide}
-use Rattle.nr_endpoint.specs.Judging.{segment_end, next_frame, next_segment, with_frame, with_fpdu, with_peer_hello, with_segment_by, with_end_of, reply_hello}
+use Rattle.nr_endpoint.specs.Judging.{segment_end, next_frame, next_segment, with_frame, with_fpdu, with_peer_hello, with_segment_by, with_end_of, reply_hello, with_other_sizes}
 use Rattle.nr_endpoint.specs.Hellos.{own_private, side_agreement, received_max, receive_length_for}
 use Rattle.nr_endpoint.specs.Laws.{IsFrameEnd, IsFrameReason}
 use Rattle.nr_endpoint.proofs.EndLaws.{effect_ended, frames_end_for_these}
+use Rattle.nr_endpoint.proofs.HellosFrom.{hello_from}
 use Rattle.nr_endpoint.proofs.Agreed.{agreed_fits}
 use Rattle.nr_reduce.specs.declared.mark.LinkParameters.{LinkParameters}
 use Rattle.nr_reduce.specs.OfferedRegions.{region_grants}
@@ -69,9 +70,22 @@ unfolding with_peer_hello
 ended_hello s f (Ok hello) end live is = absurd (let h : None ≡ Some end = sym live ∙ is in cc)
 ended_hello s f (Err reason) end live is = ap (λ (e : End). with_end_of e s) (let h : ends.Bad f.at reason ≡ end = cc in h)
 
-pub ended_frame : (s : LinkState) (a : Awaited) (frame : List ℕ) (end : End) → s.ended ≡ None → (with_frame s a frame).ended ≡ Some end → with_frame s a frame ≡ with_end_of end s
-ended_frame s (HelloFrom side) frame end live is = ended_hello s (next_frame s frame) (hello_of side frame) end live is
-ended_frame s Fpdu frame end live is = ended_fpdu s (next_frame s frame) (next_segment s frame) end live is
+-- a frame that ends a side, which may be one that agrees on other lengths of Sends than an earlier link
+pub frame_ended : (s : LinkState) (a : Awaited) (frame : List ℕ) (end : End) → s.ended ≡ None → (with_frame s a frame).ended ≡ Some end →
+    (with_frame s a frame ≡ with_end_of end s) ⊎ (with_frame s a frame ≡ with_other_sizes (next_frame s frame) s)
+frame_ended s (HelloFrom side) frame end live =
+    hello_from (λ t. t.ended ≡ Some end → (t ≡ with_end_of end s) ⊎ (t ≡ with_other_sizes (next_frame s frame) s)) side (next_frame s frame) (hello_of side frame) s
+    (λ is. inl (ended_hello s (next_frame s frame) (hello_of side frame) end live is)) (λ is. inr refl)
+frame_ended s Fpdu frame end live = λ is. inl (ended_fpdu s (next_frame s frame) (next_segment s frame) end live is)
+
+-- a side that awaits an initiator's hello, or an FPDU
+ended_frame : (l : LinkSide) (frame : List ℕ) (end : End) → Begins l → l.state.ended ≡ None → (with_frame l.state l.awaited frame).ended ≡ Some end → with_frame l.state l.awaited frame ≡ with_end_of end l.state
+ended_frame l frame end (BeforeHello place awaited hello none) live is =
+    subst (λ (a : Awaited). (with_frame l.state a frame).ended ≡ Some end → with_frame l.state a frame ≡ with_end_of end l.state) (sym awaited)
+    (λ ended. ended_hello l.state (next_frame l.state frame) (hello_of Initiator frame) end live ended) is
+ended_frame l frame end (AfterHello place awaited hello) live is =
+    subst (λ (a : Awaited). (with_frame l.state a frame).ended ≡ Some end → with_frame l.state a frame ≡ with_end_of end l.state) (sym awaited)
+    (λ ended. ended_fpdu l.state (next_frame l.state frame) (next_segment l.state frame) end live ended) is
 
 no_flags : (place at : ℕ) (end : End) → IsFrameEnd Fpdu place end → end ≢ ends.Bad at REASON_FLAGS
 no_flags place at (ends.Bad other reason) h is = by h.1
@@ -97,19 +111,19 @@ flags_first l frame end live (AfterHello place awaited hello) ended at is =
     absurd (no_flags l.state.place at end fpdu is)
 
 -- what a hello ends the side with is no FPDU
-no_final : (side : Side) (place : ℕ) (end : End) → IsFrameEnd (HelloFrom side) place end → final_output end ≡ []
+no_final : (place : ℕ) (end : End) → IsFrameEnd (HelloFrom Initiator) place end → final_output end ≡ []
 unfolding final_output
-no_final side place (ends.Bad at reason) h = ap (λ (b : Bool). cond b [] (terminate_message reason)) (lt-ltb reason 5 (let few = h.1.1 in omega (arith, few)))
-no_final side place (ends.Denied stag offset why) h = absurd cc
-no_final side place (ends.NoBuffer msn) h = absurd cc
-no_final side place (ends.Terminated reason) h = refl
-no_final side place ends.Memory h = refl
+no_final place (ends.Bad at reason) h = ap (λ (b : Bool). cond b [] (terminate_message reason)) (lt-ltb reason 5 (let few = h.1.1 in omega (arith, few)))
+no_final place (ends.Denied stag offset why) h = absurd cc
+no_final place (ends.NoBuffer msn) h = absurd cc
+no_final place (ends.Terminated reason) h = refl
+no_final place ends.Memory h = refl
 
 first_end : (l : LinkSide) (frame : List ℕ) (end : End) → l.state.ended ≡ None → Begins l → (with_frame l.state l.awaited frame).ended ≡ Some end → l.state.has_hello ≡ false → (l.state.send_queue.fpdus ≡ []) × (final_output end ≡ [])
 first_end l frame end live (BeforeHello place awaited hello none) ended greeted =
     let ends : IfSome (with_frame l.state l.awaited frame).ended (IsFrameEnd l.awaited l.state.place) = frames_end_for_these l.state l.awaited frame live in
     let end_is : IsFrameEnd l.awaited l.state.place end = subst (λ (e : Option End). IfSome e (IsFrameEnd l.awaited l.state.place)) ended ends in
-    (none, no_final Initiator l.state.place end (subst (λ (a : Awaited). IsFrameEnd a l.state.place end) awaited end_is))
+    (none, no_final l.state.place end (subst (λ (a : Awaited). IsFrameEnd a l.state.place end) awaited end_is))
 first_end l frame end live (AfterHello place awaited hello) ended greeted = absurd (let two : true ≡ false = sym hello ∙ greeted in cc)
 
 -- why the frame ends the server
@@ -152,7 +166,7 @@ ended_takes opened k input later v frame end h some ended =
     let s : LinkState = v.link.state in
     let f : Frame = next_frame s frame in
     let why : server_end opened k (FrameReceived f) ≡ Some end = server_ends opened k v.link frame end h.link h.server h.begins some ended in
-    let state : with_frame s v.link.awaited frame ≡ with_end_of end s = ended_frame s v.link.awaited frame end h.link.live ended in
+    let state : with_frame s v.link.awaited frame ≡ with_end_of end s = ended_frame v.link frame end h.begins h.link.live ended in
     let next : next_end_state (server_rules opened) (live k) (FrameReceived f) ≡ record { state = k; ended = Some end } = ap (λ (e : Option End). next_end_state_by (server_rules opened) k (FrameReceived f) e) why in
     let due : output_for (server_rules opened) (live k) (FrameReceived f) ≡ last_output Responder end = ap (λ (e : Option End). output_for_by (server_rules opened) k (FrameReceived f) e) why in
     let last : queued_bytes (with_end s.side end s.send_queue) ≡ queued_bytes s.send_queue ++ last_output Responder end =

@@ -81,7 +81,8 @@ fits_as v c same h =
       output = record {
         most = o.most;
         hello = o.hello;
-        each = λ live_now. (let f : OutputLives v = o.each live_now in record { queue = f.queue; reads = f.reads; hello = f.hello; none = f.none });
+        held = o.held;
+        each = λ live_now. (let f : OutputLives v = o.each live_now in record { queue = f.queue; reads = f.reads; hello = f.hello; none = f.none; held = f.held });
       };
       reads = h.reads;
     }

@@ -94,11 +94,11 @@ fetched_failed e f piece end calls reads sinks live p fed out outside h = by end
 
 -- ---- As it is opened
 
-first_next : (credits : ℕ) (terms : SideTerms) → (initial_link Responder credits 1 terms).state.memory.next ≡ 1
+first_next : (credits : ℕ) (terms : SideTerms) → (initial_link Responder credits 1 terms None).state.memory.next ≡ 1
 unfolding initial_link initial_memory
 first_next credits terms = refl
 
-pub fetched_first : (e : EndpointState) (credits : ℕ) (terms : SideTerms) (calls : List Pending) → e.link ≡ initial_link Responder credits 1 terms → e.outside ≡ empty → calls ≡ [] → AreFetched e calls [] []
+pub fetched_first : (e : EndpointState) (credits : ℕ) (terms : SideTerms) (calls : List Pending) → e.link ≡ initial_link Responder credits 1 terms None → e.outside ≡ empty → calls ≡ [] → AreFetched e calls [] []
 fetched_first e credits terms calls is none no_calls =
     let next : e.link.state.memory.next ≡ 1 = ap (λ (l : LinkSide). l.state.memory.next) is ∙ first_next credits terms in
     record {

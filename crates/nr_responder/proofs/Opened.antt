@@ -65,7 +65,7 @@ next_first : (initial_memory 1).next ≡ 1 + 0
 unfolding initial_memory
 next_first = refl
 
-link_first : (opened : LinkParameters) → LinkKeeps opened (server.initial_server_state opened) (initial_state Responder opened.receives 1 opened.server)
+link_first : (opened : LinkParameters) → LinkKeeps opened (server.initial_server_state opened) (initial_state Responder opened.receives 1 opened.server None)
 link_first opened = record {
   live = refl;
   side = refl;
@@ -87,7 +87,7 @@ link_first opened = record {
   queue = record { due_is = refl; ends_are = sym (ends_none 0 0); each = tt; sends = refl; requests_are = refl; responses = refl };
 }
 
-keeps_first : (opened : LinkParameters) → Keeps opened (server.initial_server_state opened) (initial_input Initiator) (opened_state (credits_of opened) (initial_link Responder opened.receives 1 opened.server))
+keeps_first : (opened : LinkParameters) → Keeps opened (server.initial_server_state opened) (initial_input Initiator) (opened_state (credits_of opened) (initial_link Responder opened.receives 1 opened.server None))
 unfolding initial_link
 keeps_first opened = record {
   link = link_first opened;
@@ -103,30 +103,30 @@ keeps_first opened = record {
   quiet = λ e. (refl, refl);
 }
 
-queue_first : (opened : LinkParameters) → queue (opened_state (credits_of opened) (initial_link Responder opened.receives 1 opened.server)) ≡ []
+queue_first : (opened : LinkParameters) → queue (opened_state (credits_of opened) (initial_link Responder opened.receives 1 opened.server None)) ≡ []
 unfolding initial_link
 queue_first opened = refl
 
-link_heard : (opened : LinkParameters) → ((initial_link Responder opened.receives 1 opened.server).state.last ≡ 0) × ((initial_link Responder opened.receives 1 opened.server).state.client ≡ 0)
+link_heard : (opened : LinkParameters) → ((initial_link Responder opened.receives 1 opened.server None).state.last ≡ 0) × ((initial_link Responder opened.receives 1 opened.server None).state.client ≡ 0)
 unfolding initial_link
 link_heard opened = (refl, refl)
 
-pub opened_stands_lem : (opened : LinkParameters) (link : ℕ) (credits low : ℕ) (terms : SideTerms) (l : LinkSide) → ServerOpened opened credits low terms → l ≡ initial_link Responder credits 1 terms → ResponderRepresents opened link [] (opened_state (opened_credits credits low) l)
+pub opened_stands_lem : (opened : LinkParameters) (link : ℕ) (credits low : ℕ) (terms : SideTerms) (l : LinkSide) → ServerOpened opened credits low terms → l ≡ initial_link Responder credits 1 terms None → ResponderRepresents opened link [] (opened_state (opened_credits credits low) l)
 opened_stands_lem opened link credits low terms l same is =
-    let first : RepresentsServer opened link [] (opened_state (credits_of opened) (initial_link Responder opened.receives 1 opened.server)) = record {
+    let first : RepresentsServer opened link [] (opened_state (credits_of opened) (initial_link Responder opened.receives 1 opened.server None)) = record {
       end = initial_server opened;
       input = initial_input Initiator;
       stands = subst (λ (bytes : List ℕ). ServerRepresents opened link (initial_server opened) (initial_input Initiator) bytes []) (sym (queue_first opened)) (server_begins_lem opened link);
       keeps = inl (refl, keeps_first opened);
-      heard = λ live. first_heard link (initial_link Responder opened.receives 1 opened.server).state (link_heard opened).0 (link_heard opened).1;
+      heard = λ live. first_heard link (initial_link Responder opened.receives 1 opened.server None).state (link_heard opened).0 (link_heard opened).1;
     } in
     let own : credits_of opened ≡ opened_credits credits low = λ i. record { receives = same.1 i; granted = same.0 i; low = same.3 i; word = same.0 i } in
     subst (λ (x : LinkSide). ResponderRepresents opened link [] (opened_state (opened_credits credits low) x)) (sym is)
-    (subst (λ (t : SideTerms). ResponderRepresents opened link [] (opened_state (opened_credits credits low) (initial_link Responder credits 1 t))) same.2
-    (subst (λ (n : ℕ). ResponderRepresents opened link [] (opened_state (opened_credits credits low) (initial_link Responder n 1 opened.server))) same.1
-    (subst (λ (c : Credits). ResponderRepresents opened link [] (opened_state c (initial_link Responder opened.receives 1 opened.server))) own (inl first))))
+    (subst (λ (t : SideTerms). ResponderRepresents opened link [] (opened_state (opened_credits credits low) (initial_link Responder credits 1 t None))) same.2
+    (subst (λ (n : ℕ). ResponderRepresents opened link [] (opened_state (opened_credits credits low) (initial_link Responder n 1 opened.server None))) same.1
+    (subst (λ (c : Credits). ResponderRepresents opened link [] (opened_state c (initial_link Responder opened.receives 1 opened.server None))) own (inl first))))
 
-pub opened_length : (l : LinkSide) (credits : ℕ) (terms : SideTerms) → l ≡ initial_link Responder credits 1 terms → l.state.receive_queue.receive_length ≡ receive_length_for terms
+pub opened_length : (l : LinkSide) (credits : ℕ) (terms : SideTerms) → l ≡ initial_link Responder credits 1 terms None → l.state.receive_queue.receive_length ≡ receive_length_for terms
 unfolding initial_link
 opened_length l credits terms is = ap (λ (x : LinkSide). x.state.receive_queue.receive_length) is
 
@@ -134,10 +134,10 @@ opened_length l credits terms is = ap (λ (x : LinkSide). x.state.receive_queue.
 pub own_limit : (terms : SideTerms) → IsSendLimit (receive_length_for terms)
 own_limit terms = (omega arith, omega arith)
 
-pub opened_lives : (l : LinkSide) (credits : ℕ) (terms : SideTerms) → l ≡ initial_link Responder credits 1 terms → l.state.ended ≡ None
+pub opened_lives : (l : LinkSide) (credits : ℕ) (terms : SideTerms) → l ≡ initial_link Responder credits 1 terms None → l.state.ended ≡ None
 unfolding initial_link
 opened_lives l credits terms is = ap (λ (x : LinkSide). x.state.ended) is
 
-pub opened_queues : (l : LinkSide) (credits : ℕ) (terms : SideTerms) → l ≡ initial_link Responder credits 1 terms → (l.state.receive_queue.lent ≡ 0) × ((l.state.receive_queue.receives ≡ credits) × (l.state.send_queue.send_ends ≡ []))
+pub opened_queues : (l : LinkSide) (credits : ℕ) (terms : SideTerms) → l ≡ initial_link Responder credits 1 terms None → (l.state.receive_queue.lent ≡ 0) × ((l.state.receive_queue.receives ≡ credits) × (l.state.send_queue.send_ends ≡ []))
 unfolding initial_link
 opened_queues l credits terms is = (ap (λ (x : LinkSide). x.state.receive_queue.lent) is, (ap (λ (x : LinkSide). x.state.receive_queue.receives) is, ap (λ (x : LinkSide). x.state.send_queue.send_ends) is))

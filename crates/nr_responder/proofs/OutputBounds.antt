@@ -1,5 +1,6 @@
 -- The output of a responder stays within its bounds.
-use Rattle.std.proofs.Common.{◌≡◌, ℕ, ◌+◌, ◌*◌, ◌<◌, ◌≤◌, Bool, true, false, not, ◌||◌, eqb, cond, List, [], ◌∷◌, ◌++◌, length, map, take, drop, Option, None, Some, Result, Ok, Err, refl, sym, ap, subst, ◌∙◌, arith, is_some, length-append}
+use Rattle.std.proofs.Common.{◌≡◌, ℕ, ◌+◌, ◌*◌, ◌<◌, ◌≤◌, Bool, true, false, not, ◌||◌, eqb, cond, List, [], ◌∷◌, ◌++◌, length, map, take, drop, Option, None, Some, Result, Ok, Err, refl, sym, ap, subst, ◌∙◌, arith, is_some, length-append, inl, inr}
+use Rattle.std.specs.Prelude.{◌⊎◌}
 use Rattle.std.specs.List.{AllByRecursion, list_any, filter}
 use Rattle.std.proofs.lemmas.Bool.{eqb-true, ne_eqb}
 use Rattle.std.proofs.lemmas.List.{length-map, length-take, length-drop, take-append-drop}
@@ -14,10 +15,10 @@ use Rattle.nr_link.specs.declared.end.End.TheVariants as ends
 use Rattle.nr_link.specs.Frames.{Frame}
 use Rattle.nr_link.specs.Limits.{open_reads_max}
 use Rattle.nr_link.specs.Input.{InputState}
-use Rattle.nr_endpoint.specs.SendQueue.{SendQueue, with_end, with_send}
+use Rattle.nr_endpoint.specs.SendQueue.{SendQueue, with_end, with_send, with_hello}
 use Rattle.nr_endpoint.specs.Hellos.{own_private}
 use Rattle.nr_endpoint.specs.LinkState.{LinkState, LinkSide, initial_link}
-use Rattle.nr_endpoint.specs.Judging.{next_frame, reply_hello, with_end_of, with_frame, with_peer_hello}
+use Rattle.nr_endpoint.specs.Judging.{next_frame, reply_hello, with_end_of, with_frame, with_peer_hello, with_other_sizes}
 use Rattle.nr_endpoint.specs.Calls.{after_call}
 use Rattle.nr_endpoint.specs.Calls.Call.{NextEvent, OutOfMemory, Send, Stop}
 use Rattle.nr_reduce.specs.Holds.{chunk_error}
@@ -40,21 +41,22 @@ use Rattle.nr_responder.specs.private.ReadsDone.{ReadHandled, calls_without, rea
 use Rattle.nr_responder.specs.private.ReadsDone.ReadHandled.{GoesOn, Readies, Stops, Refused as RefusedRead}
 use Rattle.nr_responder.proofs.Fed.{StepOf}
 use Rattle.nr_responder.proofs.Fed.StepOf.{Part, WholeFrame}
-use Rattle.nr_responder.proofs.Frames.{ended_frame}
+use Rattle.nr_responder.proofs.Frames.{frame_ended}
 use Rattle.nr_endpoint.proofs.Pieces.{frame_place}
 use Rattle.nr_responder.proofs.Handled.{chunk_short, told_of}
 use Rattle.nr_responder.proofs.Out.{lives_same}
-use Rattle.nr_endpoint.proofs.OutputSizes.{end_hello, hello_len, rejection_len, written_hello}
+use Rattle.nr_endpoint.proofs.OutputSizes.{end_hello, hello_len, rejection_len, written_hello, end_held, terminate_len, written_held}
 use Rattle.nr_responder.proofs.OwnedSinks.{call_among}
 use Rattle.nr_responder.proofs.PendingReads.{AreOf, reads_own}
 use Rattle.nr_responder.proofs.Posted.{sent_link, told_link_lem}
-use Rattle.nr_responder.proofs.QueueBounds.{end_most, more_calls, most_of_fits, requests_fit, requests_hello, send_fits, written_fits, written_most}
+use Rattle.nr_responder.proofs.QueueBounds.{end_most, more_calls, most_of_fits, requests_fit, requests_hello, send_fits, written_fits, written_most, requests_held}
 use Rattle.nr_responder.proofs.Responses.{frame_is}
 use Rattle.nr_responder.proofs.Shares.{IsOwned, most_of, owned_total, share_append, share_filtered}
 use Rattle.nr_responder.proofs.SinkBounds.{kept_waiting, without_pending}
 use Rattle.nr_link.specs.declared.agreement.SideTerms.{SideTerms}
-use Rattle.nr_link.specs.Output.{hello_with}
+use Rattle.nr_link.specs.Output.{hello_with, terminate_message}
 use Rattle.nr_reduce.proofs.PrivateData.{responder_short}
+use Rattle.nr_link.specs.Reasons.{REASON_SIZES}
 
 -- ---- Reads that wait
 
@@ -94,6 +96,7 @@ pub live_out : (v : ResponderSide) → OutputLives v → OutputFits v
 live_out v f = record {
   most = most_of_fits v.link.state.send_queue (length (drop open_reads_max v.fetching.reads)) (length v.calls) f.queue;
   hello = (let small = f.hello in omega (arith, small));
+  held = f.held;
   each = λ live. f;
 }
 
@@ -106,6 +109,7 @@ out_over v after side end live calls queue over h =
           subst (λ (q : SendQueue). QueueMost q (length after.calls)) (sym queue)
           (subst (λ (cs : List PendingCall). QueueMost (with_end side end v.link.state.send_queue) (length cs)) (sym calls) (end_most side end v.link.state.send_queue (length (drop open_reads_max v.fetching.reads)) (length v.calls) f.queue));
       hello = (let small = f.hello in let len = ap (λ (q : SendQueue). length q.hello) queue in let more = end_hello side end v.link.state.send_queue in let last = rejection_len side end in omega (arith, small, len, more, last));
+      held = ap (λ (q : SendQueue). q.held) queue ∙ end_held side end v.link.state.send_queue ∙ f.held;
       each = λ live_now. absurd (over live_now);
     }
 
@@ -114,6 +118,7 @@ out_same_over : (v after : ResponderSide) → after.calls ≡ v.calls → after.
 out_same_over v after calls queue over h = record {
   most = subst (λ (q : SendQueue). QueueMost q (length after.calls)) (sym queue) (subst (λ (cs : List PendingCall). QueueMost v.link.state.send_queue (length cs)) (sym calls) h.most);
   hello = (let small = h.hello in let len = ap (λ (q : SendQueue). length q.hello) queue in omega (arith, small, len));
+  held = ap (λ (q : SendQueue). q.held) queue ∙ h.held;
   each = λ live_now. absurd (over live_now);
 }
 
@@ -156,6 +161,7 @@ same_lives v l queue place f = record {
   reads = f.reads;
   hello = (let small = f.hello in let len = ap (λ (q : SendQueue). length q.hello) queue in omega (arith, small, len));
   none = λ e. ap (λ (q : SendQueue). length q.hello) queue ∙ f.none (place e);
+  held = ap (λ (q : SendQueue). q.held) queue ∙ f.held;
 }
 
 pub told_lives : (w : ResponderSide) → OutputLives w → OutputLives (told_of w)
@@ -177,6 +183,7 @@ greeted_lives v m f (Ok hello) side place some is lives h = record {
       let short = hello_len Responder private (responder_short v.link.state.terms hello.private) in
       omega (arith, none, len, own, short, length-append v.link.state.send_queue.hello reply));
   none = λ e. absurd (let at : m.state.place ≡ f.end = ap (λ (t : LinkState). t.place) is in omega (arith, at, e, some));
+  held = ap (λ (t : LinkState). t.send_queue.held) is ∙ h.held;
 }
 
 pub fed_lives : (opened : LinkParameters) (k : ServerState) (so_far : InputState) (v : ResponderSide) (piece : List ℕ) (m : LinkSide) → Keeps opened k so_far v → StepOf v.link piece m → m.state.ended ≡ None → OutputLives v → OutputLives (on_link v m)
@@ -199,13 +206,32 @@ fed_lives opened k so_far v piece m h (WholeFrame frame w frame_is_taken long li
         let at = ap (λ (t : LinkState). t.place) now ∙ frame_place s Fpdu frame lives_on in
         same_lives v m queue (λ e. absurd (omega (arith, at, e, long))) f
 
+-- the side ended with a Terminate after its hello
+sizes_out : (v after : ResponderSide) (f : Frame) → end_of v ≡ None → after.calls ≡ v.calls → after.link.state ≡ with_other_sizes f v.link.state → OutputFits v → OutputFits after
+sizes_out v after f live calls is h =
+    let lives : OutputLives v = h.each live in
+    let fpdus : after.link.state.send_queue.fpdus ≡ v.link.state.send_queue.fpdus = ap (λ (t : LinkState). t.send_queue.fpdus) is in
+    let queue : after.link.state.send_queue ≡ with_hello (terminate_message REASON_SIZES) v.link.state.send_queue = ap (λ (t : LinkState). t.send_queue) is in
+    record {
+      most =
+          subst (λ (q : SendQueue). QueueMost q (length after.calls)) (sym queue)
+          (subst (λ (cs : List PendingCall). QueueMost (with_hello (terminate_message REASON_SIZES) v.link.state.send_queue) (length cs)) (sym calls) (λ n. h.most n));
+      hello = (let small = lives.hello in let len = ap (λ (q : SendQueue). length q.hello) queue in omega (arith, small, len, terminate_len REASON_SIZES, length-append v.link.state.send_queue.hello (terminate_message REASON_SIZES)));
+      held = ap (λ (q : SendQueue). q.held) queue ∙ h.held;
+      each = λ live_now. absurd (not_none (end_of after) _ (ap (λ (t : LinkState). t.ended) is) live_now);
+    }
+
 -- a frame that ends the side
 pub ended_out : (v : ResponderSide) (piece : List ℕ) (m : LinkSide) (end : End) → end_of v ≡ None → StepOf v.link piece m → m.state.ended ≡ Some end → OutputFits v → OutputFits (on_link v m)
 ended_out v piece m end live (Part w link) ended h = absurd (not_none (end_of v) end (sym (ap (λ (l : LinkSide). l.state.ended) link) ∙ ended) live)
-ended_out v piece m end live (WholeFrame frame w frame_is_taken long link) ended h =
-    let state : m.state ≡ with_frame v.link.state v.link.awaited frame = ap (λ (l : LinkSide). l.state) link in
-    let over : with_frame v.link.state v.link.awaited frame ≡ with_end_of end v.link.state = ended_frame v.link.state v.link.awaited frame end live (sym (ap (λ (t : LinkState). t.ended) state) ∙ ended) in
-    out_over v (on_link v m) v.link.state.side end live refl (ap (λ (t : LinkState). t.send_queue) (state ∙ over)) (λ none. not_none m.state.ended end ended none) h
+ended_out v piece m end live (WholeFrame frame w frame_is_taken long link) ended h = by (frame_ended v.link.state v.link.awaited frame end live (sym (ap (λ (t : LinkState). t.ended) state) ∙ ended))
+  where
+    state : m.state ≡ with_frame v.link.state v.link.awaited frame
+    state = ap (λ (l : LinkSide). l.state) link
+
+    by : (with_frame v.link.state v.link.awaited frame ≡ with_end_of end v.link.state) ⊎ (with_frame v.link.state v.link.awaited frame ≡ with_other_sizes (next_frame v.link.state frame) v.link.state) → OutputFits (on_link v m)
+    by (inl over) = out_over v (on_link v m) v.link.state.side end live refl (ap (λ (t : LinkState). t.send_queue) (state ∙ over)) (λ none. not_none m.state.ended end ended none) h
+    by (inr over) = sizes_out v (on_link v m) (next_frame v.link.state frame) live refl (state ∙ over) h
 
 -- ---- What was made of a message
 
@@ -249,6 +275,7 @@ reading_lives k v c reads before number few f = record {
   reads = λ n. each n (eqb c.number n) refl;
   hello = (let small = f.hello in let same = ap (λ (bytes : List ℕ). length bytes) (requests_hello (opened_with v c) v.link.state.send_queue) in omega (arith, small, same));
   none = λ e. ap (λ (bytes : List ℕ). length bytes) (requests_hello (opened_with v c) v.link.state.send_queue) ∙ f.none e;
+  held = requests_held (opened_with v c) v.link.state.send_queue ∙ f.held;
 }
   where
     new : List PendingRead
@@ -300,6 +327,7 @@ ready_lives v l c queue place f = record {
   reads = f.reads;
   hello = (let small = f.hello in let len = ap (λ (q : SendQueue). length q.hello) queue in omega (arith, small, len));
   none = λ e. ap (λ (q : SendQueue). length q.hello) queue ∙ f.none (place e);
+  held = ap (λ (q : SendQueue). q.held) queue ∙ f.held;
 }
 
 -- one that lives, after what was made of a message; `g` is what holds of its sinks then
@@ -337,6 +365,7 @@ handled_out opened k so_far message v after m keeps lives h g (Refused answer ef
       reads = t.reads;
       hello = (let small = t.hello in let len = ap (λ (l : LinkSide). length l.state.send_queue.hello) sent in omega (arith, small, len));
       none = λ e. ap (λ (l : LinkSide). length l.state.send_queue.hello) sent ∙ t.none (sym (ap (λ (l : LinkSide). l.state.place) sent) ∙ e);
+      held = ap (λ (l : LinkSide). l.state.send_queue.held) sent ∙ t.held;
     }
 handled_out opened k so_far message v after m keeps lives h g (Ready xid write reply stream head new judged call own is) = subst OutputFits (sym is) (live_out _ (ready_lives (on_link v m) (after_call m NextEvent) (inline_call k xid write reply stream) (told_queue m).0 (λ e. sym (told_queue m).1 ∙ e) h))
 handled_out opened k so_far message v after m keeps lives h g (Completed c own new judged none alone is) = subst OutputFits (sym is) (live_out _ (ready_lives (on_link v m) (after_call m NextEvent) c (told_queue m).0 (λ e. sym (told_queue m).1 ∙ e) h))
@@ -354,6 +383,7 @@ goes_lives v r rest xids payloads reads f = record {
   reads = λ n. (let all : reads_share n (r ∷ rest) ≤ READ_SEGMENTS_MAX = subst (λ (rs : List PendingRead). reads_share n rs ≤ READ_SEGMENTS_MAX) reads (f.reads n) in omega (arith, all));
   hello = (let small = f.hello in let same = ap (λ (bytes : List ℕ). length bytes) (requests_hello opened v.link.state.send_queue) in omega (arith, small, same));
   none = λ e. ap (λ (bytes : List ℕ). length bytes) (requests_hello opened v.link.state.send_queue) ∙ f.none e;
+  held = requests_held opened v.link.state.send_queue ∙ f.held;
 }
   where
     opened : List PendingRead
@@ -392,6 +422,7 @@ refused_lives v n r rest xid reads own g f = record {
   reads = each;
   hello = (let small = f.hello in let same = ap (λ (bytes : List ℕ). length bytes) (requests_hello opened (with_send message q)) in omega (arith, small, same));
   none = λ e. ap (λ (bytes : List ℕ). length bytes) (requests_hello opened (with_send message q)) ∙ f.none e;
+  held = requests_held opened (with_send message q) ∙ f.held;
 }
   where
     q : SendQueue
@@ -467,6 +498,7 @@ drained_out v after n is h =
     subst OutputFits (sym is) (record {
       most = written_most n v.link.state.send_queue (length v.calls) h.most;
       hello = (let small = h.hello in omega (arith, small, fewer));
+      held = written_held n v.link.state.send_queue ∙ h.held;
       each = λ live.
           let f : OutputLives v = h.each live in
           record {
@@ -474,12 +506,13 @@ drained_out v after n is h =
             reads = f.reads;
             hello = (let small = f.hello in omega (arith, small, fewer));
             none = λ e. (let zero_now = f.none e in omega (arith, zero_now, fewer));
+            held = written_held n v.link.state.send_queue ∙ f.held;
           };
     })
 
 first_lives : (credits low : ℕ) (terms : SideTerms) → OutputLives (opened_side credits low terms)
 unfolding initial_link
-first_lives credits low terms = record { queue = λ n. omega arith; reads = λ n. omega arith; hello = omega arith; none = λ e. refl }
+first_lives credits low terms = record { queue = λ n. omega arith; reads = λ n. omega arith; hello = omega arith; none = λ e. refl; held = refl }
 
 pub opened_out : (v : ResponderSide) (credits low : ℕ) (terms : SideTerms) → v ≡ opened_side credits low terms → OutputFits v
 opened_out v credits low terms is = subst OutputFits (sym is) (live_out (opened_side credits low terms) (first_lives credits low terms))

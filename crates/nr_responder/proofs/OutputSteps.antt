@@ -152,4 +152,5 @@ answered_out v after xid reply sent live limit fit on a = subst OutputFits (sym 
       reads = h.reads;
       hello = (let small = h.hello in let len = ap (λ (l : LinkSide). length l.state.send_queue.hello) link_is in omega (arith, small, len));
       none = λ e. ap (λ (l : LinkSide). length l.state.send_queue.hello) link_is ∙ h.none (sym (ap (λ (l : LinkSide). l.state.place) link_is) ∙ e);
+      held = ap (λ (l : LinkSide). l.state.send_queue.held) link_is ∙ h.held;
     }

@@ -45,6 +45,10 @@ pub requests_hello : (reads : List PendingRead) (q : SendQueue) → (with_reques
 requests_hello [] q = refl
 requests_hello (r ∷ reads) q = requests_hello reads (with_request r.sink r.at r.size r.stag r.to q)
 
+pub requests_held : (reads : List PendingRead) (q : SendQueue) → (with_requests reads q).held ≡ q.held
+requests_held [] q = refl
+requests_held (r ∷ reads) q = requests_held reads (with_request r.sink r.at r.size r.stag r.to q)
+
 -- what was written
 pub written_fits : (n : ℕ) (q : SendQueue) (w c : ℕ) → QueueFits q w c → QueueFits (written n q) w c
 written_fits n q w c fits = written_within answer_max 0 (requests_max * c) (request_max * w) n q fits

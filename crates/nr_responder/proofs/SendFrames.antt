@@ -90,6 +90,7 @@ send_framed s bytes received free lent deliveries = record {
   agreed = s.agreed;
   message_max = s.message_max;
   client = s.client;
+  earlier = s.earlier;
 }
 
 pub part_framed : (s : LinkState) (bytes : List ℕ) (w queue msn offset : ℕ) (payload : List ℕ) →

@@ -25,6 +25,7 @@ use Rattle.nr_endpoint.specs.Calls.{after_call}
 use Rattle.nr_endpoint.specs.Calls.Call.{FeedOne}
 use Rattle.nr_endpoint.proofs.AlongFrames.{feed_one_keeps}
 use Rattle.nr_endpoint.proofs.Alive.{alive_tagged}
+use Rattle.nr_endpoint.proofs.HellosFrom.{hello_from}
 use Rattle.nr_reduce.specs.OfferedRegions.{Region}
 use Rattle.nr_responder.specs.declared.call.OpenSink.{OpenSink}
 use Rattle.nr_responder.specs.Fetching.{SinkRegion}
@@ -38,7 +39,7 @@ use Rattle.nr_link.specs.declared.agreement.SideTerms.{SideTerms}
 
 -- ---- As it is opened
 
-first_memory : (credits : ℕ) (terms : SideTerms) → (initial_link Responder credits 1 terms).state.memory ≡ initial_memory 1
+first_memory : (credits : ℕ) (terms : SideTerms) → (initial_link Responder credits 1 terms None).state.memory ≡ initial_memory 1
 unfolding initial_link
 first_memory credits terms = refl
 
@@ -46,7 +47,7 @@ none_held : RegionsHave (initial_memory 1) 0
 unfolding initial_memory
 none_held = sound_initial region_len 1 (omega arith)
 
-pub opened_have : (l : LinkSide) (credits : ℕ) (terms : SideTerms) → l ≡ initial_link Responder credits 1 terms → RegionsHave l.state.memory 0
+pub opened_have : (l : LinkSide) (credits : ℕ) (terms : SideTerms) → l ≡ initial_link Responder credits 1 terms None → RegionsHave l.state.memory 0
 opened_have l credits terms is = subst (λ (m : RegisteredMemory). RegionsHave m 0) (sym (ap (λ (x : LinkSide). x.state.memory) is ∙ first_memory credits terms)) none_held
 
 -- ---- A frame
@@ -103,7 +104,8 @@ hello_have s f (Ok hello) total h = h
 hello_have s f (Err reason) total h = h
 
 frame_have : (total : ℕ) (a : Awaited) (s : LinkState) (frame : List ℕ) → has_ended s ≡ false → RegionsHave s.memory total → RegionsHave (with_frame s a frame).memory total
-frame_have total (HelloFrom side) s frame live h = hello_have s (next_frame s frame) (hello_of side frame) total h
+frame_have total (HelloFrom side) s frame live h =
+    hello_from (λ t. RegionsHave t.memory total) side (next_frame s frame) (hello_of side frame) s (hello_have s (next_frame s frame) (hello_of side frame) total h) h
 frame_have total Fpdu s frame live h = fpdu_have s (next_frame s frame) (next_segment s frame) total refl h
 
 -- one step on a piece

@@ -51,6 +51,7 @@ use Rattle.nr_wire.specs.Constants.{UNITS_MAX}
 use Rattle.std.proofs.lemmas.Nat.{mul-le}
 use Rattle.nr_responder.proofs.Opened.{own_limit}
 use Rattle.nr_responder.proofs.Words.{word_is}
+use Rattle.nr_endpoint.specs.SendQueue.{held_len}
 
 -- one that lives and stands for some marks keeps a server's state
 pub lives_on_lem : (opened : LinkParameters) (link : ℕ) (run : List Mark) (v : ResponderSide) → ResponderRepresents opened link run v → LivesOn v
@@ -259,6 +260,7 @@ held_bound v result is b lists rooms receives lent =
     let staging = b.1 in
     let output = b.0.output.most 0 in
     let hello = b.0.output.hello in
+    let held = ap held_len b.0.output.held in
     let waiting = ends_left_fewer 0 v.side.link.state.send_queue.send_ends in
     let most = b.0.sinks.receives.len.1 in
     let n : ℕ = v.side.link.state.receive_queue.receive_length in
@@ -269,4 +271,4 @@ held_bound v result is b lists rooms receives lent =
     let ready = lists.ready in
     let sinks = lists.sinks in
     let reads = lists.reads in
-    omega (arith, is, staging, of_kept, of_lent, regions, count, output, hello, waiting, rooms, receives, lent, ready, sinks, reads)
+    omega (arith, is, staging, of_kept, of_lent, regions, count, output, hello, held, waiting, rooms, receives, lent, ready, sinks, reads)

@@ -4,7 +4,7 @@ use Rattle.std.specs.List.{AllByRecursion, list_any}
 use Rattle.nr_regions.specs.RegisteredMemory.{RegisteredMemory}
 use Rattle.nr_regions.specs.Table.{IsTotal, region_len}
 use Rattle.nr_header.specs.Constants.{PAYLOAD_MAX, READ_SEGMENTS_MAX, REPLY_SEGMENTS_MAX, WRITE_SEGMENTS_MAX}
-use Rattle.nr_wire.specs.Constants.{FPDU_MAX, HELLO_LEN}
+use Rattle.nr_wire.specs.Constants.{FPDU_MAX}
 use Rattle.nr_link.specs.Agreement.{IsSendLimit}
 use Rattle.nr_link.specs.Limits.{open_reads_max, segment_max}
 use Rattle.nr_endpoint.specs.ReceiveQueue.{ReceiveQueue}
@@ -102,17 +102,19 @@ reads_share n reads = share (λ r. r.number) (λ r. 1) n reads
 abbrev pub QueueMost : SendQueue → ℕ → Type 0
 QueueMost q calls = QueueWithin answer_max 0 (requests_max * calls + frame_max) 0 q
 
--- While a side lives. It has no hello to write before the client's.
+-- While a side lives. It has no hello to write before the client's, and holds no Send back.
 pub record OutputLives (v : ResponderSide) : Type 0 where
   pub queue : QueueFits v.link.state.send_queue (length (drop open_reads_max v.fetching.reads)) (length v.calls)
   pub reads : (n : ℕ) → reads_share n v.fetching.reads ≤ READ_SEGMENTS_MAX
   pub hello : length v.link.state.send_queue.hello ≤ hello_max
   pub none : v.link.state.place ≡ 0 → length v.link.state.send_queue.hello ≡ 0
+  pub held : v.link.state.send_queue.held ≡ []
 
--- once it has ended, it may have one message more, and a hello without private data more
+-- once it has ended, it may have one message more, and one FPDU more after its hello
 pub record OutputFits (v : ResponderSide) : Type 0 where
   pub most : QueueMost v.link.state.send_queue (length v.calls)
-  pub hello : length v.link.state.send_queue.hello ≤ hello_max + HELLO_LEN
+  pub hello : length v.link.state.send_queue.hello ≤ hello_max + frame_max
+  pub held : v.link.state.send_queue.held ≡ []
   pub each : end_of v ≡ None → OutputLives v
 
 -- ---- Lists

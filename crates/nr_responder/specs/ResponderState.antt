@@ -2,7 +2,7 @@
 -- those that wait to be executed, in the order in which they became ready; its credits; what it fetches; the whole staging buffer, which
 -- begins with the bytes of the frame that isn't complete; and how many bytes the buffers have that it keeps for payloads of calls that are
 -- read, with those of buffers outside their regions.
-use Rattle.std.specs.Prelude.{◌≡◌, ℕ, ◌+◌, ◌-◌, ◌*◌, max, if◌then◌else◌, is_some, List, [], ◌++◌, length, drop, Option}
+use Rattle.std.specs.Prelude.{◌≡◌, ℕ, ◌+◌, ◌-◌, ◌*◌, max, if◌then◌else◌, is_some, List, [], ◌++◌, length, drop, Option, None}
 use Rattle.nr_wire.specs.declared.hello.Side.TheVariants.{Responder}
 use Rattle.nr_link.specs.declared.end.End.{End}
 use Rattle.nr_link.specs.SegmentFaults.{is_begun}
@@ -31,7 +31,7 @@ pub record ResponderState : Type 0 where
 -- the side as it is opened with this number of credits, the most that it grants while more than half of the receives are in use, and these
 -- terms: its first region gets the STag 1
 abbrev pub opened_side : (credits low : ℕ) → SideTerms → ResponderSide
-opened_side credits low terms = record { link = initial_link Responder credits 1 terms; calls = []; ready = []; credits = opened_credits credits low; fetching = nothing_fetched }
+opened_side credits low terms = record { link = initial_link Responder credits 1 terms None; calls = []; ready = []; credits = opened_credits credits low; fetching = nothing_fetched }
 
 -- A feed changes the staging buffer only in two prefixes: that of the bytes which are staged after it, and that of the frame which the
 -- bytes staged before it begin, as far as it was fed.

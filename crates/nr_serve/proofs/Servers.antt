@@ -85,6 +85,7 @@ module _ (settings : Settings Text) (before after : AcceptorAt) (spawner spawner
           saw = found.seen;
           begins = (found.others, refl);
           of_calls = both_of_calls (setup_in opens.first) [] J found.others calls found.of_calls;
+          once = found.once;
           unfailing = links.unfailing;
         },
         found.seen,

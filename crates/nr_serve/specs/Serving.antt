@@ -9,7 +9,7 @@ use Rattle.nr_links.specs.Moments.{Gives}
 use Rattle.nr_reduce.specs.declared.mark.Entry.{Entry}
 use Rattle.nr_turnstile.specs.Rule.{Begins}
 use Rattle.nr_tree.specs.Roots.{root_only}
-use Rattle.nr_plain.specs.History.{AreOfCalls, IsHistory, OnlyOthersAdded, Opening, PassView, setup_in}
+use Rattle.nr_plain.specs.History.{AreOfCalls, HasNoCallTwice, IsHistory, OnlyOthersAdded, Opening, PassView, setup_in}
 use Rattle.nr_plain.specs.Setup.{Setup, time_of}
 use Rattle.nr_words.specs.declared.settings.Settings.{Settings}
 use Rattle.nr_words.specs.Lines.{Text}
@@ -72,7 +72,8 @@ served_text connections journal = codes "served " ++ decimal connections ++ code
 
 -- All connections that a configuration asks for were taken: of each a job more was counted as started, or it was served
 -- here. After that the server's own pass, which knew a journal, had one turn more, and this is the journal that it saw
--- then. It begins with the one that the pass knew, and each of its entries is that of a call.
+-- then. It begins with the one that the pass knew, and each of its entries is that of a call. No two are of one call of a
+-- client that has a number.
 pub record ServesConnections (settings : Settings Text) (before after : AcceptorAt) (spawner spawner' : SpawnerAt) (gave gave' : Option (List Moment)) : Type 0 where
   pub first : Opening
   pub ends : List LinkEnd
@@ -88,4 +89,5 @@ pub record ServesConnections (settings : Settings Text) (before after : Acceptor
   pub saw : IsHistory first journal last.seen
   pub begins : Begins known journal
   pub of_calls : AreOfCalls (setup_in first) [] journal
+  pub once : HasNoCallTwice last.seen
   pub unfailing : after.faults ≡ before.faults

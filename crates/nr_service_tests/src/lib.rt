@@ -23,6 +23,8 @@ mod jobs;
 #[cfg(test)]
 mod links;
 #[cfg(test)]
+mod numbers;
+#[cfg(test)]
 mod pieces;
 #[cfg(test)]
 mod reading;

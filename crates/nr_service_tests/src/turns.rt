@@ -34,7 +34,8 @@ const NOW: Moment = Moment {
     nanos: 0,
 };
 
-fn bytes(rt: &impl Abort, alloc: Global, words: &[u32]) -> Vec<u8> {
+/// The bytes of words (RFC 4506 section 4.1).
+pub(crate) fn bytes(rt: &impl Abort, alloc: Global, words: &[u32]) -> Vec<u8> {
     let mut bytes = Vec::new(alloc);
     for word in words {
         bytes
@@ -52,7 +53,7 @@ fn drill_tree(rt: &impl Abort, alloc: Global) -> Tree
 }
 
 /// A server of the tree of a drill, behind a turnstile.
-fn drill(rt: &impl Abort, alloc: Global) -> (Turnstile<Server>, Pass<Server>)
+pub(crate) fn drill(rt: &impl Abort, alloc: Global) -> (Turnstile<Server>, Pass<Server>)
     ensures { Rests result.0 result.1 }
 {
     let tree = drill_tree(rt, alloc);

@@ -1,7 +1,7 @@
 -- What the links of a world came to.
 use Rattle.std.specs.Prelude.{◌-◌}
 use Rattle.std.specs.List.{range_with_len}
-use Rattle.std.proofs.Common.{◌≡◌, Bool, ℕ, ◌+◌, ◌<◌, ◌≤◌, arith, List, [], ◌∷◌, ◌++◌, length, map, Option, refl, sym, ap, subst, ◌∙◌, append-nil, append_assoc}
+use Rattle.std.proofs.Common.{◌≡◌, Bool, ℕ, zero, suc, ◌+◌, ◌<◌, ◌≤◌, arith, List, [], ◌∷◌, ◌++◌, length, map, Option, refl, sym, ap, subst, ◌∙◌, append-nil, append_assoc}
 use Rattle.nr_link.specs.declared.end.End.{End}
 use Rattle.nr_reduce.specs.declared.mark.Mark.{Mark}
 use Rattle.nr_tree.specs.Tree.{Tree}
@@ -17,7 +17,8 @@ use Rattle.nr_world.specs.private.Stands.{drill_setting, WorldStands}
 use Rattle.nr_world.specs.private.Results.{AreEndsOf, ReportsWorld}
 use Rattle.nr_world.proofs.Rounds.{links_from, no_links}
 use Rattle.nr_drill.specs.Follows.{last_setting}
-use Rattle.nr_drill.proofs.Followed.{follows_first}
+use Rattle.nr_drill.proofs.FirstLines.{drill_script, follows_first}
+use Rattle.nr_drill.proofs.FirstRuns.{first_clients}
 
 abbrev pub ends_from : Option End → Option End → Bool → LinkEnds
 ends_from client server dropped = record { client = client; server = server; dropped = dropped }
@@ -52,12 +53,23 @@ ends_all w ends at le so_far tree opening d h =
     let none : map f (range_with_len (at + 1) (opening.clients - at)) ≡ [] = ap (λ (links : List ℕ). map f links) (no_links opening.clients at (omega (arith, le, h.count))) in
     sym (append-nil ends) ∙ sym (ap (λ (xs : List LinkEnds). ends ++ xs) none) ∙ so_far tree opening d h
 
-pub tells_world : (w : World) (run : List Mark) (ends : List LinkEnds) (report : Report) → run ≡ w.marks → AreEndsOf w ends → ReportsRuns run ends report → ReportsWorld w report
-tells_world w run ends report same are tells tree script d h is drill =
+-- the numbers of links from one on, with one more
+pub range_end : (from n : ℕ) → range_with_len from (suc n) ≡ range_with_len from n ++ (from + n) ∷ []
+range_end from zero = (let same : from ≡ from + 0 = omega arith in ap (λ (k : ℕ). k ∷ []) same)
+range_end from (suc n) = (let same : from + 1 + n ≡ from + suc n = omega arith in ap (λ (ks : List ℕ). from ∷ ks) (range_end (from + 1) n ∙ ap (λ (k : ℕ). range_with_len (from + 1) n ++ k ∷ []) same))
+
+pub clients_on : (clients : List ℕ) (at : ℕ) → clients ≡ links_of at → clients ++ (at + 1) ∷ [] ≡ links_of (at + 1)
+clients_on clients at is =
+    let first : at + 1 ≡ 1 + at = omega arith in
+    let next : suc at ≡ at + 1 = omega arith in
+    (λ i. is i ++ first i ∷ []) ∙ sym (range_end 1 at) ∙ ap links_of next
+
+pub tells_world : (w : World) (run : List Mark) (clients : List ℕ) (ends : List LinkEnds) (report : Report) → run ≡ w.marks → clients ≡ links_of (length w.links.items) → AreEndsOf w ends → ReportsRuns run clients ends report → ReportsWorld w report
+tells_world w run clients ends report same clients_are are tells tree script d h is drill =
     let s = server_of (drill_setup tree script.opening) in
     let run_is : run ≡ d.marks = same ∙ h.marks in
     let own = subst (IsDrillRun s script) (sym run_is) drill in
     let first = follows_first s script run is h.unnumbered own.follows in
     let ends_are : ends ≡ map (ends_of (last_setting own.follows) run) own.follows.last.last_links =
     are tree script.opening d h ∙ sym (λ i. map (ends_of (first.setting i) (run_is i)) (first.last_links i)) in
-    tells s script is h.unnumbered own refl ends_are
+    tells s script (drill_script script is) own refl (clients_are ∙ ap links_of h.count ∙ first_clients s script run is h.unnumbered own.follows) ends_are

@@ -19,10 +19,8 @@ use Rattle.nr_world.specs.private.Results.{ReportsWorld}
 use Rattle.nr_world.specs.private.Stands.{drill_setting, MakesLines, HasOpened, WorldStands}
 use Rattle.nr_world.specs.private.Within.{IsClient, IsLineWithin, AreWithin, CanMakeAll}
 use Rattle.nr_world.proofs.SameServer.{openings_clock}
-use Rattle.nr_drill.proofs.Followed.{all_fit, opened_first_links}
-use Rattle.nr_drill.proofs.FirstLines.{all_makes, all_name, both_true}
+use Rattle.nr_drill.proofs.FirstLines.{all_fit, all_makes, all_name, both_true, drill_script, opened_first_links, opened_heard}
 use Rattle.nr_drill.proofs.FirstLinks.{opened_firsts}
-use Rattle.nr_drill.proofs.LessScripts.{opened_heard}
 
 client_is : (opening : Opening) (client : ℕ) → is_client opening client ≡ true → IsClient opening.clients client
 client_is opening client e =
@@ -102,7 +100,7 @@ runs_script script w n report is (tree, sane, stands) makes told =
     let first = opened_first_links server script.opening none in
     let all = all_makes (drill_setting tree script.opening) script.opening.clients script.lines (opened_drill server script.opening) last first.setting first.last_links (all_fit server script is none) (all_name script.opening [] script.lines is.follow_on) made in
     let follows : Follows server script last.marks = record { last = last; makes = all; marks_are = refl } in
-    (tree, sane.drill, told tree script last there is (drill_is_run tree script last.marks sane.sane is none there.replies follows))
+    (tree, sane.drill, told tree script last there is (drill_is_run tree script last.marks sane.sane (drill_script script is) there.replies follows))
 
 -- as many links as clients, at most as many as a script has
 pub few_links : (script : ScriptLines) (w n : World) → IsScript script → HasOpenLinks script.opening w → MakesLines script.lines w n → length n.links.items ≤ clients_max

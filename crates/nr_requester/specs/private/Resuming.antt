@@ -1,21 +1,23 @@
 -- How calls are made again for the next link, for the code.
-use Rattle.std.specs.Prelude.{◌≡◌, ℕ, ◌+◌, ◌<◌, ◌≤◌, ◌==◌, false, List, [], ◌∷◌, ◌++◌, length, map, take, drop, sum, Option, None, Some}
+use Rattle.std.specs.Prelude.{◌≡◌, ℕ, ◌+◌, ◌^◌, ◌<◌, ◌≤◌, ◌==◌, List, [], ◌∷◌, ◌++◌, length, map, take, drop, sum, Option, None, Some}
 use Rattle.std.specs.List.{AllByRecursion, find}
 use Rattle.nr_wire.specs.Constants.{FPDU_MAX}
-use Rattle.nr_regions.specs.RegisteredMemory.{AreHeldFrom}
+use Rattle.nr_wire.specs.declared.hello.Side.TheVariants.{Initiator}
+use Rattle.nr_regions.specs.RegisteredMemory.{AreHeldFrom, initial_memory}
 use Rattle.nr_endpoint.specs.EndpointState.{EndpointState}
-use Rattle.nr_endpoint.specs.LinkState.{LinkState, LinkSide}
+use Rattle.nr_endpoint.specs.LinkState.{LinkState, LinkSide, initial_link, last_agreed}
 use Rattle.nr_endpoint.specs.SendQueue.{with_held}
 use Rattle.nr_endpoint.specs.Calls.{with_state}
 use Rattle.nr_reduce.specs.declared.call.Call.{Call}
 use Rattle.nr_reduce.specs.declared.outline.Plan.{Plan}
-use Rattle.nr_reduce.specs.Plans.{Buffer, buffers, call_message, given_region}
+use Rattle.nr_reduce.specs.Plans.{Buffer, buffers, call_message, given_region, total}
 use Rattle.nr_reduce.specs.KeptClient.{registered_all}
 use Rattle.nr_requester.specs.declared.outstanding.OutstandingCall.{OutstandingCall}
-use Rattle.nr_requester.specs.RequesterState.{awaited_call}
-use Rattle.nr_requester.specs.Reopening.{CallsAgain, calls_again_from}
+use Rattle.nr_requester.specs.AfterCalls.{stored_call}
+use Rattle.nr_requester.specs.RequesterState.{StoredCall, awaited_call}
+use Rattle.nr_requester.specs.Reopening.{CallsAgain, calls_again_from, plan_again, stags_for_calls}
 use Rattle.nr_requester.specs.Views.{stored_view, HasRoom, AreRising}
-use Rattle.nr_requester.specs.HeldClaims.{all_claims, OffersOwn}
+use Rattle.nr_requester.specs.HeldClaims.{all_claims, OffersOwn, IsOfferOf, SentHeld}
 use Rattle.nr_requester.specs.HeldBytes.{NothingOutside, LinkFits, IsCount, RegionsHave, AreRisingBy, send_of, claims_total, CallFits}
 
 -- the plan made again of the lengths of the segments that were offered
@@ -88,3 +90,52 @@ pub record AreResumed (len next : ℕ) (e : EndpointState) (calls : List Outstan
   pub rooms : AllByRecursion (HasRoom len) made
   pub each : AllByRecursion (CallFits len) made
   pub regions : (size : ℕ → ℕ) → IsCount size → RegionsHave size e.link.state.memory (claims_total size made)
+
+-- A call was made again, or nothing was if its owner doesn't await the answer.
+pub record MadeOne (credit len : ℕ) (c : OutstandingCall) (call : Call) (e e2 : EndpointState) (made made2 : List OutstandingCall) : Type 0 where
+  pub one : OutstandingCall
+  pub more : made2 ≡ made ++ one ∷ []
+  pub stored : stored_view (with_call call one) ≡ stored_call c.xid (length made) call (plan_again (stored_view c) call) e.link.state.memory
+  pub link : e2.link ≡ with_held_call c.xid credit (plan_again (stored_view c) call) e.link
+  pub staging : e2.staging ≡ e.staging
+  pub outside : NothingOutside e → NothingOutside e2
+  pub held : SentHeld e.link.state.memory e2.link.state.memory one.claims
+  pub offer : IsOfferOf one.claims one.offered
+  pub room : (one.room.len ≡ len + (total (plan_again (stored_view c) call).write + (total (plan_again (stored_view c) call).reply + 3))) × (one.room.len < 2 ^ 32)
+  pub empty : one.room.bytes ≡ []
+
+abbrev pub IsMadeAgain : (credit len : ℕ) → OutstandingCall → Option Call → (e e2 : EndpointState) → (made made2 : List OutstandingCall) → Type 0
+IsMadeAgain credit len c None e e2 made made2 = (e2 ≡ e) × (made2 ≡ made)
+IsMadeAgain credit len c (Some call) e e2 made made2 = MadeOne credit len c call e e2 made made2
+
+-- the calls that are outstanding when a link is left
+pub record AreLeft (len next : ℕ) (calls : List OutstandingCall) : Type 0 where
+  pub own : AllByRecursion OffersOwn calls
+  pub rising : AreRising calls next
+  pub fits : AllByRecursion (CallFits len) calls
+
+-- Of those before the first `i` all that go on were made again, on an endpoint that was `first` before.
+pub record AreResuming (credit len next : ℕ) (first e : EndpointState) (calls : List OutstandingCall) (i : ℕ) (made : List OutstandingCall) : Type 0 where
+  pub left : AreLeft len next calls
+  pub resumed : AreResumed len next e calls i (with_calls (awaited_calls (take i calls)) made)
+  pub again : calls_again_from credit (map stored_view (drop i calls)) (made_again e (with_calls (awaited_calls (take i calls)) made)) ≡ calls_again_from credit (map stored_view calls) (made_again first [])
+  pub link : e.link ≡ resumed_link first.link (made_again e [])
+  pub count : length made ≡ length (awaited_calls (take i calls))
+  pub stags : e.link.state.memory.next + stags_for_calls (map stored_view (drop i calls)) ≤ 2 ^ 32
+
+-- the next link of a side, with all calls that go on
+pub record IsNextLink (credit : ℕ) (left : LinkState) (next : ℕ) (e : EndpointState) (calls made : List OutstandingCall) : Type 0 where
+  pub resumed : AreResumed left.receive_queue.receive_length next e calls (length calls) (with_calls (awaited_calls calls) made)
+  pub again : made_again e (with_calls (awaited_calls calls) made) ≡ calls_again_from credit (map stored_view calls) (record { calls = []; memory = initial_memory left.memory.next; messages = [] })
+  pub link : e.link ≡ resumed_link (initial_link Initiator 1 left.memory.next left.terms (last_agreed left)) (made_again e [])
+  pub count : length made ≡ length (awaited_calls calls)
+
+-- the first of some messages that are held back; no bytes if there is none
+abbrev pub first_message : List (List ℕ) → List ℕ
+first_message [] = []
+first_message (message ∷ messages) = message
+
+-- the xids of some calls rise
+abbrev pub RiseBy : List StoredCall → Type 0
+RiseBy [] = Unit {0}
+RiseBy (c ∷ cs) = AllByRecursion (λ (d : StoredCall). c.xid < d.xid) cs × RiseBy cs

@@ -1,7 +1,8 @@
 use Rattle.nr_drill.proofs.LessSteps.{steps_leave_less}
-use Rattle.nr_drill.proofs.LessRounds.{drains_end}
+use Rattle.nr_drill.proofs.EndingDrains.{drains_end}
 use Rattle.nr_drill.proofs.KeptTypes.{steps_keep_types}
-use Rattle.nr_drill.proofs.LessPlain.{plain_answers, plain_answers_in_bytes, plain_drains_end}
+use Rattle.nr_drill.proofs.LessPlain.{plain_answers, plain_answers_in_bytes}
+use Rattle.nr_drill.proofs.SomeRuns.{plain_drains_end}
 use Rattle.nr_drill.proofs.laws.drains_end.Goals as goal
 
 pub returns-clause-steps : goal.returns-clause-steps

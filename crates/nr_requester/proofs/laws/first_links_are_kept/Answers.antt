@@ -1,5 +1,8 @@
-use Rattle.nr_requester.proofs.ReopenedLinks.{first_links_are_kept}
+use Rattle.nr_requester.proofs.ReopenedLinks.{first_links_are_kept, first_links_resend_none}
 use Rattle.nr_requester.proofs.laws.first_links_are_kept.Goals as goal
 
-pub returns : goal.returns
-returns c = first_links_are_kept
+pub returns-clause-kept : goal.returns-clause-kept
+returns-clause-kept c = first_links_are_kept
+
+pub returns-clause-none : goal.returns-clause-none
+returns-clause-none c = first_links_resend_none

@@ -28,6 +28,7 @@ returns-clause-ok c =
       agreed = c.self.inside.agreed;
       message_max = c.self.inside.message_max;
       client = c.self.inside.client;
+      earlier = c.self.inside.earlier;
     } in
     rw (← c.self.view_is) (same_side c.self.inside.regions.room c.self.inside.regions.outside (took_request s c.count_request.new.self c.respond.new.self (read_request_view c.read_request-request.result) c.in-Ok.bytes.now c.args.payload.now c.args.frame.now
     c.count_request.ensures c.in_ok-respond-in-Ok.ensures.ok c.read_request-request.ensures

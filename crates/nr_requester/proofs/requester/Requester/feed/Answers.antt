@@ -1,60 +1,48 @@
-use Rattle.std.proofs.Common.{◌≡◌, ltb, Option, Some, None, true, Result, Ok, Err, sym, ap, ◌∙◌}
-use Rattle.std.specs.Prelude.{is_some}
-use Rattle.nr_link.specs.declared.end.End.{End}
-use Rattle.nr_link.specs.declared.end.End.TheVariants as ends
-use Rattle.nr_requester.specs.RequesterState.{RequesterSide, feeding_of}
-use Rattle.nr_requester.specs.CountedMarks.{marks_if}
-use Rattle.nr_requester.specs.Views.{requester_view, side_view}
-use Rattle.nr_requester.proofs.PieceLoop.{stands_fed, late_fed, fed_after, out_after}
+use Rattle.std.proofs.Common.{[], ◌∷◌, ◌++◌, sym, subst, ◌∙◌}
+use Rattle.nr_wire.specs.declared.hello.Side.TheVariants.{Initiator}
+use Rattle.nr_reduce.specs.declared.mark.Mark.TheVariants as marks
+use Rattle.nr_requester.specs.RequesterState.{RequesterSide}
+use Rattle.nr_requester.specs.Resends.{KeepsPiece}
+use Rattle.nr_requester.specs.Standing.{RequesterRepresents}
+use Rattle.nr_requester.proofs.AllResent.{feed_is_marks}
+use Rattle.nr_requester.proofs.ReopenedLinks.{first_links_resend_none}
+use Rattle.nr_requester.proofs.ResendSteps.{fed_ended, fed_on, fed_tickets, fed_staging, fed_within, fed_end, fed_same}
 use Rattle.nr_requester.proofs.requester.Requester.feed.Goals as goal
 
-abbrev unit_error : End → Result (Unit {0}) End
-unit_error e = Err e
+pub resend-requires : goal.resend-requires
+resend-requires c = sym c.in-Ok.ensures.ended
 
-abbrev error_in : Result (Unit {0}) End → End
-error_in (Ok n) = ends.NoBuffer 0
-error_in (Err e) = e
+pub returns-in-Ok-clause-ended : goal.returns-in-Ok-clause-ended
+returns-in-Ok-clause-ended c = c.in-Ok.ensures.ended ∙ sym (fed_end c.take_piece.new.self c.resend.new.self c.resend.ensures)
 
-some_same : {e f : End} → Some e ≡ Some f → e ≡ f
-some_same is = cc
+pub returns-in-Ok-clause-state : goal.returns-in-Ok-clause-state
+returns-in-Ok-clause-state c = λ other. fed_on c.args.self.now c.take_piece.new.self c.resend.new.self c.args.piece.now (c.in-Ok.ensures.state other) (sym c.in-Ok.ensures.ended) c.resend.ensures
 
--- ---- A side that had ended
+pub returns-in-Ok-clause-stands : goal.returns-in-Ok-clause-stands
+returns-in-Ok-clause-stands c = λ other opened link run r.
+    let after = c.take_piece.new.self in
+    let fed = c.in-Ok.ensures.state other in
+    let none = first_links_resend_none opened link c.args.self.now run c.args.piece.now after.staging r in
+    subst (λ (h : RequesterSide). RequesterRepresents opened link h (run ++ marks.Fed link Initiator c.args.piece.now ∷ [])) (fed_same c.args.self.now after c.resend.new.self c.args.piece.now fed none (sym c.in-Ok.ensures.ended) c.resend.ensures) (c.in-Ok.ensures.stands other opened link run r)
 
-pub returns-in-Some-clause-state : goal.returns-in-Some-clause-state
-returns-in-Some-clause-state c = λ other.
-    let e : is_some c.args.self.now.state.side.ended ≡ true = ap (λ (o : Option End). is_some o) (sym c.end.ensures ∙ c.in-Some.is) in
-    late_fed c.args.self.now c.count_late.new.self c.in-Some.end c.args.piece.now e (c.facts.ensures.ended e) c.count_late.ensures (λ memory. other (ap unit_error memory))
+pub returns-in-Ok-clause-keeps : goal.returns-in-Ok-clause-keeps
+returns-in-Ok-clause-keeps c = λ other.
+    let on = fed_on c.args.self.now c.take_piece.new.self c.resend.new.self c.args.piece.now (c.in-Ok.ensures.state other) (sym c.in-Ok.ensures.ended) c.resend.ensures in
+    subst (λ (h : RequesterSide). KeepsPiece c.args.self.now c.args.piece.now h) (sym on) (feed_is_marks c.args.self.now c.args.piece.now c.resend.new.self.staging)
 
-pub returns-in-Some-clause-stands : goal.returns-in-Some-clause-stands
-returns-in-Some-clause-stands c = λ other.
-    let e : is_some c.args.self.now.state.side.ended ≡ true = ap (λ (o : Option End). is_some o) (sym c.end.ensures ∙ c.in-Some.is) in
-    stands_fed c.args.self.now c.count_late.new.self c.args.piece.now (late_fed c.args.self.now c.count_late.new.self c.in-Some.end c.args.piece.now e (c.facts.ensures.ended e) c.count_late.ensures (λ memory. other (ap unit_error memory)))
+pub returns-in-Ok-clause-staging : goal.returns-in-Ok-clause-staging
+returns-in-Ok-clause-staging c = fed_staging c.args.self.now c.take_piece.new.self c.resend.new.self c.args.piece.now c.take_piece.ensures.staging c.resend.ensures
 
--- ---- A side that hadn't
+pub returns-in-Ok-clause-tickets : goal.returns-in-Ok-clause-tickets
+returns-in-Ok-clause-tickets c = fed_tickets c.args.self.now c.take_piece.new.self c.resend.new.self c.take_piece.ensures.tickets c.resend.ensures
 
-pub returns-in-Some-end-clause-stands : goal.returns-in-Some-end-clause-stands
-returns-in-Some-end-clause-stands c = λ other.
-    let i = c.self.inside in
-    let new : RequesterSide = side_view i.endpoint.staging c.marks_if-self-inside.result (requester_view i.endpoint.link i.sent i.wished i.sends i.next_xid i.grant i.outstanding.items i.answered.items i.local_releases) in
-    let ended : new.state.side.ended ≡ Some c.in-Some-end.end = sym c.end-2.ensures ∙ c.in-Some-end.is in
-    stands_fed c.args.self.now new c.args.piece.now
-    (fed_after c.args.self.now c.take_frames-taken.new.self new c.args.piece.now c.take_frames-taken.result (ap feeding_of c.self.view_is) c.take_frames-taken.ensures.taken (λ memory. other (ap unit_error (some_same (sym ended ∙ memory))))
-    c.take_frames-taken.ensures.marks (c.marks_if-self-inside.ensures ∙ ap (λ (h : RequesterSide). marks_if (ltb 0 c.take_frames-taken.result) h.marks) c.self.view_is))
+pub returns-in-Ok-clause-within : goal.returns-in-Ok-clause-within
+returns-in-Ok-clause-within c = fed_within c.args.self.now c.take_piece.new.self c.resend.new.self _ c.take_piece.ensures.within c.resend.ensures
 
-pub returns-in-Some-end-clause-memory : goal.returns-in-Some-end-clause-memory
-returns-in-Some-end-clause-memory c = λ memory lives.
-    let i = c.self.inside in
-    let new : RequesterSide = side_view i.endpoint.staging c.marks_if-self-inside.result (requester_view i.endpoint.link i.sent i.wished i.sends i.next_xid i.grant i.outstanding.items i.answered.items i.local_releases) in
-    let ended : new.state.side.ended ≡ Some c.in-Some-end.end = sym c.end-2.ensures ∙ c.in-Some-end.is in
-    out_after c.args.self.now c.take_frames-taken.new.self new c.args.piece.now c.take_frames-taken.result (ap feeding_of c.self.view_is) c.take_frames-taken.ensures.taken
-    (ended ∙ ap (λ (e : End). Some e) (ap (λ (r : Result (Unit {0}) End). error_in r) memory))
-    c.take_frames-taken.ensures.marks (c.marks_if-self-inside.ensures ∙ ap (λ (h : RequesterSide). marks_if (ltb 0 c.take_frames-taken.result) h.marks) c.self.view_is)
+pub returns-in-Err-clause-state : goal.returns-in-Err-clause-state
+returns-in-Err-clause-state c = λ other. fed_ended c.args.self.now c.take_piece.new.self c.args.piece.now c.in-Err.end (c.in-Err.ensures.state other) (sym c.in-Err.ensures.ended)
 
-pub returns-clause-stands : goal.returns-clause-stands
-returns-clause-stands c = λ other.
-    let i = c.self.inside in
-    let new : RequesterSide = side_view i.endpoint.staging c.marks_if-self-inside.result (requester_view i.endpoint.link i.sent i.wished i.sends i.next_xid i.grant i.outstanding.items i.answered.items i.local_releases) in
-    let ended : new.state.side.ended ≡ None = sym c.end-2.ensures ∙ c.in_default-end.is in
-    stands_fed c.args.self.now new c.args.piece.now
-    (fed_after c.args.self.now c.take_frames-taken.new.self new c.args.piece.now c.take_frames-taken.result (ap feeding_of c.self.view_is) c.take_frames-taken.ensures.taken (λ memory. absurd (let h : None ≡ Some ends.Memory = sym ended ∙ memory in cc))
-    c.take_frames-taken.ensures.marks (c.marks_if-self-inside.ensures ∙ ap (λ (h : RequesterSide). marks_if (ltb 0 c.take_frames-taken.result) h.marks) c.self.view_is))
+pub returns-in-Err-clause-keeps : goal.returns-in-Err-clause-keeps
+returns-in-Err-clause-keeps c = λ other.
+    subst (λ (h : RequesterSide). KeepsPiece c.args.self.now c.args.piece.now h) (sym (fed_ended c.args.self.now c.take_piece.new.self c.args.piece.now c.in-Err.end (c.in-Err.ensures.state other) (sym c.in-Err.ensures.ended)))
+    (feed_is_marks c.args.self.now c.args.piece.now c.take_piece.new.self.staging)

@@ -1,4 +1,4 @@
-use Rattle.std.proofs.Common.{ℕ, List, [], length, map, sym, ap, subst, ◌∙◌, arith}
+use Rattle.std.proofs.Common.{ℕ, List, [], length, map, sym, ap, subst, ◌∙◌, arith, None}
 use Rattle.std.proofs.lemmas.List.Elements.{All-nil}
 use Rattle.nr_responder.specs.ResponderState.{ResponderSide}
 use Rattle.nr_responder.specs.Standing.{ResponderRepresents}
@@ -62,7 +62,7 @@ pub returns-clause-live : goal.returns-clause-live
 returns-clause-live c = opened_lives c.in_ok-endpoint.endpoint.link c.args.credits c.args.terms c.in_ok-endpoint.ensures.state
 
 pub returns-clause-fed : goal.returns-clause-fed
-returns-clause-fed c = open_fed c.in_ok-endpoint.endpoint.link Responder c.args.credits 1 c.args.terms c.in_ok-endpoint.ensures.state
+returns-clause-fed c = open_fed c.in_ok-endpoint.endpoint.link Responder c.args.credits 1 c.args.terms None c.in_ok-endpoint.ensures.state
 
 pub returns-clause-bounded : goal.returns-clause-bounded
 returns-clause-bounded c = record { sinks = opened_fits _ c.args.credits c.args.low c.args.terms (returns-clause-state c); output = opened_out _ c.args.credits c.args.low c.args.terms (returns-clause-state c); reads = opened_reads _ c.args.credits c.args.low c.args.terms (returns-clause-state c) }

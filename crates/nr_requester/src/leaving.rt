@@ -1,24 +1,23 @@
 //! A requester leaves its connection and begins the next one.
 
-ghost use Rattle.std.specs.Prelude.{◌≡◌, ℕ, ◌+◌, ◌^◌, ◌<◌, ◌≤◌, [], ◌++◌, length, map, take, drop, option_map, Some, None, IfSome, IfErr, OnOk, OnErr};
-ghost use Rattle.std.specs.List.{AllByRecursion};
+ghost use Rattle.std.specs.Prelude.{◌≡◌, ℕ, ◌+◌, ◌^◌, ◌<◌, ◌≤◌, [], ◌++◌, length, map, take, drop, option_map, Some, None, IfOk, IfErr, OnOk, OnErr, List, ◌≢◌};
 ghost use Rattle.nr_reduce.specs.declared.call.Refused.TheVariants as refusals;
 ghost use Rattle.nr_reduce.specs.Plans.{has_segment, one_if};
-ghost use Rattle.nr_reduce.specs.PlansByLists.{write_lengths};
-ghost use Rattle.nr_requester.specs.AfterCalls.{stored_call};
+ghost use Rattle.nr_reduce.specs.Limits.{credits_max};
+ghost use Rattle.nr_reduce.specs.PlansByLists.{plan_by_lists, segment_lengths, write_lengths};
 ghost use Rattle.nr_requester.specs.Fed.{fed_bytes};
 ghost use Rattle.nr_requester.specs.HeldBytes.{receive_max};
 ghost use Rattle.nr_requester.specs.HeldClaims.{OffersOwn};
 ghost use Rattle.nr_requester.specs.OpenCalls.{KeepsTickets};
 ghost use Rattle.nr_requester.specs.RequesterState.{awaited_call};
-ghost use Rattle.nr_requester.specs.Reopening.{calls_again_from, stags_for_call, stags_for_calls, reopen_refusal, after_reopen, ReopenStands};
+ghost use Rattle.nr_requester.specs.Reopening.{stags_for_call, stags_for_calls, reopen_refusal, after_reopen, ReopenStands};
 ghost use Rattle.nr_requester.specs.Views.{stored_view};
-ghost use Rattle.nr_requester.specs.private.Resuming.{AreResumed, awaited_calls, with_calls, made_again, resumed_link};
+ghost use Rattle.nr_requester.specs.private.Resuming.{AreLeft, AreResuming, IsMadeAgain, IsNextLink, RiseBy, awaited_calls, with_calls};
 
 use crate::again::resume_call;
 use crate::outstanding::{OutstandingCall, given_by};
 use crate::requester::Requester;
-use crate::submitting::{Sent, SentCall};
+use crate::submitting::{NUMBERS_END, Sent, SentCall};
 use nr_endpoint::Endpoint;
 use nr_reduce::{Call, Refused};
 use nr_xdr::Memory;
@@ -103,7 +102,7 @@ fn stags_for_calls(calls: &[OutstandingCall]) -> u64
 
 // ---- The calls are made again
 
-/// Makes a call again, if its owner awaits the answer, without the call itself. Nothing changes if memory runs out but the endpoint.
+/// Makes a call again, if its owner awaits the answer, without the call itself. After an `Err` the endpoint may have more.
 fn resume_one(
     alloc: Global,
     endpoint: &mut Endpoint,
@@ -116,17 +115,18 @@ fn resume_one(
     requires live { endpoint.old.link.state.ended ≡ None }
     requires offers { OffersOwn stored.now }
     requires stags { endpoint.old.link.state.memory.next + stags_for_call (stored_view stored.now) (awaited_call (stored_view stored.now)) ≤ 2 ^ 32 }
-    ensures made { OnOk result (IsMadeAgain credit receive_length stored.now endpoint.old endpoint.new made.old.items made.new.items) }
+    ensures { OnOk result (IsMadeAgain credit receive_length stored.now (awaited_call (stored_view stored.now)) endpoint.old endpoint.new made.old.items made.new.items) }
 {
-    let Some(call) = awaited(stored) else {
-        return Ok(());
+    let call = match awaited(stored) {
+        Some(call) => call,
+        None => return Ok(()),
     };
     let SentCall {
         sent: Sent { lists, claims },
         room,
     } = resume_call(alloc, endpoint, credit, receive_length, call, stored)?;
     let given = given_by(&claims);
-    let send = made.len() as u64;
+    let send = made.as_slice().len() as u64;
     made.push(OutstandingCall {
         xid: stored.xid,
         send,
@@ -147,24 +147,28 @@ fn resume_all(
     endpoint: &mut Endpoint,
     credit: u32,
     receive_length: u32,
-    next_xid: u64,
     calls: &[OutstandingCall],
     made: &mut Vec<OutstandingCall>,
 ) -> Result<(), Memory>
     requires receive { receive_length ≤ receive_max }
-    requires offers { AllByRecursion OffersOwn calls.now }
-    requires stags { endpoint.old.link.state.memory.next + stags_for_calls (map stored_view calls.now) ≤ 2 ^ 32 }
     requires none { made.old.items ≡ [] }
-    requires begun { AreResumed receive_length next_xid endpoint.old calls.now 0 [] }
-    ensures resumed { OnOk result (AreResumed receive_length next_xid endpoint.new calls.now (length calls.now) (with_calls (awaited_calls calls.now) made.new.items)) }
-    ensures again { OnOk result (made_again endpoint.new (with_calls (awaited_calls calls.now) made.new.items) ≡ calls_again_from credit (map stored_view calls.now) (made_again endpoint.old [])) }
-    ensures link { OnOk result (endpoint.new.link ≡ resumed_link endpoint.old.link (made_again endpoint.new [])) }
-    ensures count { OnOk result (length made.new.items ≡ length (awaited_calls calls.now)) }
+    requires begun { (next : ℕ) × AreResuming credit receive_length next endpoint.old endpoint.old calls.now 0 [] }
+    ensures { OnOk result ((next : ℕ) → AreResuming credit receive_length next endpoint.old endpoint.old calls.now 0 [] → AreResuming credit receive_length next endpoint.old endpoint.new calls.now (length calls.now) made.new.items) }
 {
     'calls: for i in 0..calls.len() {
         resume_one(alloc, endpoint, credit, receive_length, &calls[i], made)?;
     }
     Ok(())
+}
+
+/// Takes a call out of what is kept of it, if its owner awaits the answer.
+fn take_awaited(stored: &mut OutstandingCall) -> Option<Call>
+    ensures { result ≡ awaited_call (stored_view stored.old) }
+{
+    if stored.is_forgotten {
+        return None;
+    }
+    stored.call.take()
 }
 
 /// Moves the calls that go on to what was made again of them.
@@ -181,14 +185,37 @@ fn move_calls(calls: &mut Vec<OutstandingCall>, made: &mut Vec<OutstandingCall>)
     }
 }
 
-/// Takes a call out of what is kept of it, if its owner awaits the answer.
-fn take_awaited(stored: &mut OutstandingCall) -> Option<Call>
-    ensures { result ≡ awaited_call (stored_view stored.old) }
+/// The endpoint of the connection that follows on one, and what is made again of the calls that go on, without the calls themselves.
+fn next_link(
+    alloc: Global,
+    left: &Endpoint,
+    credit: u32,
+    calls: &[OutstandingCall],
+) -> Result<(Endpoint, Vec<OutstandingCall>), Memory>
+    requires calls { (next : ℕ) × AreLeft left.now.link.state.receive_queue.receive_length next calls.now }
+    requires first { 0 < left.now.link.state.memory.next }
+    requires stags { left.now.link.state.memory.next + stags_for_calls (map stored_view calls.now) ≤ 2 ^ 32 }
+    ensures { IfOk result (λ r. (next : ℕ) → AreLeft left.now.link.state.receive_queue.receive_length next calls.now → IsNextLink credit left.now.link.state next r.0 calls.now r.1.items) }
 {
-    if stored.is_forgotten {
-        return None;
+    let first = NUMBERS_END - left.regions().stags_left();
+    let receive_length = left.receive_length() as u32;
+    let mut endpoint = Endpoint::open_again(alloc, 1, first, left.terms(), left.last_agreed())?;
+    let mut made = Vec::new(alloc);
+    match resume_all(
+        alloc,
+        &mut endpoint,
+        credit,
+        receive_length,
+        calls,
+        &mut made,
+    ) {
+        Ok(()) => Ok((endpoint, made)),
+        Err(memory) => {
+            drop(endpoint);
+            drop(made);
+            Err(memory)
+        }
     }
-    stored.call.take()
 }
 
 impl Requester {
@@ -209,50 +236,33 @@ impl Requester {
         None
     }
 
-    /// The endpoint of the next connection, and what goes on of the calls, without the calls themselves.
-    fn next_link(&self) -> Result<(Endpoint, Vec<OutstandingCall>), Memory>
+    /// Begins the next connection, unless memory runs out.
+    fn begin_next(&mut self) -> Result<(), Memory>
+        requires { self.old.state.side.memory.next + stags_for_calls self.old.state.outstanding ≤ 2 ^ 32 }
+        ensures state { OnOk result (self.new ≡ after_reopen self.old self.new.staging) }
+        ensures rising { RiseBy self.old.state.outstanding }
+        ensures err { OnErr result (self.new ≡ self.old) }
     {
-        let mut endpoint = Endpoint::open_again(
+        let (endpoint, mut made) = next_link(
             self.alloc,
-            1,
-            NUMBERS_END - self.endpoint.regions().stags_left(),
-            self.endpoint.terms(),
-            self.endpoint.last_agreement(),
-        )?;
-        let mut made = Vec::new(self.alloc);
-        match resume_all(
-            self.alloc,
-            &mut endpoint,
+            &self.endpoint,
             self.wished,
-            self.receive_length,
-            self.next_xid,
             self.outstanding.as_slice(),
-            &mut made,
-        ) {
-            Ok(()) => Ok((endpoint, made)),
-            Err(memory) => {
-                drop(endpoint);
-                drop(made);
-                Err(memory)
-            }
-        }
-    }
-
-    /// Goes on with this endpoint and what was made again of the calls.
-    fn go_on(&mut self, endpoint: Endpoint, mut made: Vec<OutstandingCall>) {
+        )?;
         move_calls(&mut self.outstanding, &mut made);
         self.outstanding = made;
         self.endpoint = endpoint;
         self.sent = 0;
         self.sends = 0;
         self.grant = 1;
+        Ok(())
     }
 
     /// Leaves the present connection and begins the next one, with a hello. Forgotten and revoked calls are dropped; each other outstanding
     /// call's buffers are registered under new STags, those that the server fills as zeros, and its Send waits to be sent again under its xid
     /// as soon as the new connection's grant allows it (`feed`). Answers that came and were not taken stay. Refused, in this order: the link
     /// has ended; too few STags are left. Or memory ran out. A refused requester doesn't change. Its output has to go to the new connection,
-    /// whose server has to agree on what the earlier ones did.
+    /// whose server has to agree on the lengths of Sends that the earlier ones did.
     pub fn reopen(&mut self) -> Result<(), Refused>
         requires { 0 < self.old.state.side.terms.number }
         ensures accepted { OnOk result (reopen_refusal self.old.state ≡ None) }
@@ -263,14 +273,12 @@ impl Requester {
         ensures tickets { OnOk result (KeepsTickets self.old.state self.new.state) }
         ensures fed { OnOk result (fed_bytes self.new ≡ 0) }
     {
+        self.facts();
         if let Some(refused) = self.reopen_refusal() {
             return Err(refused);
         }
-        match self.next_link() {
-            Ok((endpoint, made)) => {
-                self.go_on(endpoint, made);
-                Ok(())
-            }
+        match self.begin_next() {
+            Ok(()) => Ok(()),
             Err(_) => Err(Refused::Memory),
         }
     }

@@ -1,7 +1,7 @@
 -- The calls of a requester that leaves its link are those with which its next link is opened.
-use Rattle.std.proofs.Common.{◌≡◌, ℕ, ◌+◌, Bool, true, false, cond, ◌&&◌, ◌||◌, not, eqb, ltb, List, [], ◌∷◌, ◌++◌, length, map, Option, None, Some, is_none, refl, sym, ap, subst, ◌∙◌, arith, append-nil, append_assoc, length-append}
+use Rattle.std.proofs.Common.{◌≡◌, ℕ, ◌+◌, ◌<◌, ◌≤◌, Bool, true, false, cond, ◌&&◌, ◌||◌, not, eqb, ltb, List, [], ◌∷◌, ◌++◌, length, map, Option, None, Some, is_none, refl, sym, ap, subst, ◌∙◌, arith, append-nil, append_assoc, length-append, eqb-true}
 use Rattle.std.specs.Prelude.{is_some}
-use Rattle.std.specs.List.{AllByRecursion, filter, list_any}
+use Rattle.std.specs.List.{AllByRecursion, filter, find, list_any}
 use Rattle.std.proofs.lemmas.Bool.{eq-eqb, le-ltb, lt-ltb}
 use Rattle.std.proofs.lemmas.List.{map-append, length-map}
 use Rattle.nr_wire.specs.declared.hello.Side.TheVariants.{Initiator}
@@ -19,7 +19,8 @@ use Rattle.nr_reduce.specs.ClientState.{OutstandingCall, WaitingCall, ClientStat
 use Rattle.nr_reduce.specs.KeptCalls.{KeptCall, AreKept, numbered_calls}
 use Rattle.nr_reduce.specs.KeptClient.{KeptClient, kept_of, registered_all, resumed_kept, resumed_memory}
 use Rattle.nr_reduce.specs.KeptReopening.{IsSentAgain, AreSentAgain, KeepsUnlessGivenUp}
-use Rattle.nr_reduce.specs.Reopening.{reopened, calls_kept}
+use Rattle.nr_endpoint.specs.LinkState.{LinkState, last_agreed}
+use Rattle.nr_reduce.specs.Reopening.{reopened, calls_kept, last_agreement}
 use Rattle.nr_reduce.specs.Run.{client}
 use Rattle.nr_reduce.specs.Events.{events}
 use Rattle.nr_reduce.specs.Asked.{AskedSoFar, client_calls}
@@ -31,8 +32,10 @@ use Rattle.nr_requester.specs.RequesterState.{StoredCall, RequesterState, Reques
 use Rattle.nr_requester.specs.AfterCalls.{stored_call}
 use Rattle.nr_requester.specs.KeptAnswers.{HandsBack, IsAsked, StillHolds, completed_of, is_due}
 use Rattle.nr_requester.specs.declared.answer.AnsweredCall.{AnsweredCall}
-use Rattle.nr_requester.specs.ReopenedLinks.{RequesterKeeps, own_answers}
-use Rattle.nr_requester.specs.Reopening.{AnswersStay, CallsAgain, CallsGoOn, OpensNext, call_again, calls_again, calls_again_from, plan_again, with_call_again}
+use Rattle.nr_requester.specs.OpenCalls.{found_answer}
+use Rattle.nr_requester.specs.ReopenedLinks.{KeepsEarlier, RequesterKeeps, earlier_own, own_answers}
+use Rattle.nr_requester.specs.Reopening.{CallsAgain, CallsGoOn, OpensNext, after_reopen, call_again, calls_again, calls_again_from, plan_again, with_call_again}
+use Rattle.nr_requester.proofs.OwnSides.{own_found}
 use Rattle.nr_requester.proofs.Sent.{stags_are_lem, registered_next}
 
 -- ---- One call
@@ -154,9 +157,14 @@ first_next : (n : ℕ) → (initial_memory n).next ≡ n
 unfolding initial_memory
 first_next n = refl
 
+-- what its side of the link agreed on last is what its client did
+agreed_last : (s : LinkState) (k : ClientState) → s.has_hello ≡ k.has_hello → s.agreed.up ≡ k.up_max → s.agreed.down ≡ k.down_max → s.agreed.invalidates ≡ k.invalidates → s.earlier ≡ k.agreed → last_agreed s ≡ last_agreement k
+agreed_last s k hello up down invalidates earlier =
+    λ i. cond (hello i) (Some (record { up = up i; down = down i; invalidates = invalidates i })) (earlier i)
+
 pub calls_go_on : CallsGoOn
 unfolding calls_again reopened
-calls_go_on opened link h run opens asked stands live =
+calls_go_on is_own earlier opened link h run opens asked stands live =
     let k : ClientState = (client opened link run).state in
     let keeps = stands.keeps.kept.keeps in
     let stays : (client opened link run).ended ≡ None = sym keeps.ended ∙ live in
@@ -164,7 +172,7 @@ calls_go_on opened link h run opens asked stands live =
     let none : AllByRecursion (λ (c : StoredCall). is_completed link c.xid run ≡ false) h.state.outstanding =
     kept_xids (λ (xid : ℕ). is_completed link xid run ≡ false) k h.state.sent h.state.outstanding (numbered_calls k) calls.kept (calls_uncompleted opened link run opens asked) in
     let awaited = awaited_if link run h.state.outstanding stands.answers.awaited none in
-    let again = kept_reopens opened link run (record (kept_client h.state) { agreed = opened.agreed }) (length (bytes_received link Initiator run)) opens asked keeps stays (unless_given_up link run h.state.sent h.state.outstanding awaited) in
+    let again = kept_reopens opened link run (kept_client h.state) (length (bytes_received link Initiator run)) opens asked keeps stays (unless_given_up link run h.state.sent h.state.outstanding awaited) in
     let begins : CallsAgain = record { calls = []; memory = initial_memory h.state.side.memory.next; messages = [] } in
     let on = all_go_on link run h.state.sent h.state.wished h.state.outstanding (calls_kept opened link run) begins awaited again in
     let next : h.state.side.memory.next ≡ k.stag = (keeps.memory stays).next in
@@ -177,6 +185,7 @@ calls_go_on opened link h run opens asked stands live =
       xid = keeps.xid;
       wished = stands.keeps.wished;
       terms = (stands.keeps.side live).terms;
+      agreed = agreed_last h.state.side k (stands.keeps.side live).has_hello keeps.up keeps.down keeps.invalidates keeps.opening.1;
     }
 
 -- ---- The answers of the link that it leaves
@@ -196,12 +205,9 @@ again_xids P credit (c ∷ cs) a h begun = by (λ b all. again_xids P credit cs 
     by go (Some call) = go (with_call_again (length a.calls) credit c call a)
         (all_with_last (λ (x : StoredCall). P x.xid) a.calls (stored_call c.xid (length a.calls) call (plan_again c call) a.memory) begun h.0)
 
--- an answer has an outcome, and came before the next xid
+-- an outcome has this xid
 abbrev pub has_outcome : List CompletedCall → ℕ → Bool
 has_outcome outcomes xid = list_any (λ (c : CompletedCall). eqb c.xid xid) outcomes
-
-abbrev pub Belongs : List CompletedCall → (next : ℕ) → ℕ → Bool
-Belongs outcomes next xid = has_outcome outcomes xid && ltb xid next
 
 later_outcomes : (all cs : List CompletedCall) (d : CompletedCall) → AllByRecursion (λ (c : CompletedCall). has_outcome all c.xid ≡ true) cs → AllByRecursion (λ (c : CompletedCall). has_outcome (d ∷ all) c.xid ≡ true) cs
 later_outcomes all [] d h = tt
@@ -227,16 +233,96 @@ of_answers : (P : ℕ → Type 0) (list : List AnsweredCall) → AllByRecursion 
 of_answers P [] h = tt
 of_answers P (a ∷ list) h = (h.0, of_answers P list h.1)
 
-belong : (opened : LinkParameters) (outcomes : List CompletedCall) (next : ℕ) (k : ClientState) (list : List AnsweredCall) → AllByRecursion (λ (a : AnsweredCall). has_outcome outcomes a.xid ≡ true) list → AllByRecursion (StillHolds next k) list →
-    AllByRecursion (λ (a : AnsweredCall). Belongs outcomes next a.xid ≡ true) list
-belong opened outcomes next k [] h holds = tt
-belong opened outcomes next k (a ∷ list) h holds = ((λ i. h.0 i && lt-ltb a.xid next holds.0.before i), belong opened outcomes next k list h.1 holds.1)
+-- its own answers have outcomes of the client, and no call that is outstanding has
+own_outcomes : (is_own : ℕ → Bool) (earlier : ℕ) (opened : LinkParameters) (link : ℕ) (h : RequesterSide) (run : List Mark) (stands : RequesterKeeps is_own earlier opened link h run) →
+    AllByRecursion (λ (a : AnsweredCall). has_outcome (client opened link run).state.outcomes a.xid ≡ true) (own_answers is_own h.state)
+unfolding client
+own_outcomes is_own earlier opened link h run stands =
+    let outcomes : List CompletedCall = (client opened link run).state.outcomes in
+    of_answers (λ (xid : ℕ). has_outcome outcomes xid ≡ true) (own_answers is_own h.state)
+    (subst (λ (cs : List CompletedCall). AllByRecursion (λ (c : CompletedCall). has_outcome outcomes c.xid ≡ true) cs) (sym stands.answers.outcomes)
+    (fewer_outcomes (λ (c : CompletedCall). has_outcome outcomes c.xid ≡ true) (λ (c : CompletedCall). is_due link run c.xid) outcomes (all_outcomes outcomes)))
 
--- of the answers that are its own, all belong to it
-same_answers : (own also : ℕ → Bool) (list : List AnsweredCall) → AllByRecursion (λ (a : AnsweredCall). also a.xid ≡ true) (filter (λ (a : AnsweredCall). own a.xid) list) →
+none_have : (is_own : ℕ → Bool) (earlier : ℕ) (opened : LinkParameters) (link : ℕ) (h : RequesterSide) (run : List Mark) → IsOpened opened → AskedSoFar opened link run → RequesterKeeps is_own earlier opened link h run → h.state.side.ended ≡ None →
+    AllByRecursion (λ (c : StoredCall). has_outcome (client opened link run).state.outcomes c.xid ≡ false) h.state.outstanding
+none_have is_own earlier opened link h run opens asked stands live =
+    let k : ClientState = (client opened link run).state in
+    let keeps = stands.keeps.kept.keeps in
+    kept_xids (λ (xid : ℕ). has_outcome k.outcomes xid ≡ false) k h.state.sent h.state.outstanding (numbered_calls k) (keeps.calls (sym keeps.ended ∙ live)).kept (calls_unanswered opened link run opens asked)
+
+-- ---- Which calls have an answer
+
+-- a call that has an answer is one for which this holds
+answer_holds : (P : ℕ → Type 0) (xid : ℕ) (list : List AnsweredCall) → AllByRecursion (λ (a : AnsweredCall). P a.xid) list → is_some (find (λ (a : AnsweredCall). eqb a.xid xid) list) ≡ true → P xid
+answer_holds P xid [] h found = absurd cc
+answer_holds P xid (a ∷ list) h found = by (eqb a.xid xid) refl (answer_holds P xid list h.1) found
+  where
+    by : (b : Bool) → eqb a.xid xid ≡ b → (is_some (find (λ (x : AnsweredCall). eqb x.xid xid) list) ≡ true → P xid) → is_some (cond b (Some a) (find (λ (x : AnsweredCall). eqb x.xid xid) list)) ≡ true → P xid
+    by true e later f = subst P (eqb-true a.xid xid e) h.0
+    by false e later f = later f
+
+has_answer : (xid : ℕ) (list : List AnsweredCall) (a : AnsweredCall) → a.xid ≡ xid → is_some (find (λ (x : AnsweredCall). eqb x.xid xid) (a ∷ list)) ≡ true
+has_answer xid list a same = ap (λ (b : Bool). is_some (cond b (Some a) (find (λ (x : AnsweredCall). eqb x.xid xid) list))) (eq-eqb a.xid xid same)
+
+later_answer : (list : List AnsweredCall) (b : AnsweredCall) (xs : List AnsweredCall) → AllByRecursion (λ (a : AnsweredCall). is_some (find (λ (x : AnsweredCall). eqb x.xid a.xid) list) ≡ true) xs → AllByRecursion (λ (a : AnsweredCall). is_some (find (λ (x : AnsweredCall). eqb x.xid a.xid) (b ∷ list)) ≡ true) xs
+later_answer list b [] h = tt
+later_answer list b (a ∷ xs) h = (by (eqb b.xid a.xid), later_answer list b xs h.1)
+  where
+    by : (c : Bool) → is_some (cond c (Some b) (find (λ (x : AnsweredCall). eqb x.xid a.xid) list)) ≡ true
+    by true = refl
+    by false = h.0
+
+pub all_answered : (list : List AnsweredCall) → AllByRecursion (λ (a : AnsweredCall). is_some (find (λ (x : AnsweredCall). eqb x.xid a.xid) list) ≡ true) list
+all_answered [] = tt
+all_answered (a ∷ list) = (has_answer a.xid list a refl, later_answer list a list (all_answered list))
+
+not_some : {X : Type 0} (o : Option X) → (is_some o ≡ true → ⊥) → is_some o ≡ false
+not_some None h = refl
+not_some (Some x) h = absurd (h refl)
+
+-- an own call that has an answer has an outcome, and its xid was given
+module _ (is_own : ℕ → Bool) (earlier : ℕ) (opened : LinkParameters) (link : ℕ) (h : RequesterSide) (run : List Mark) (stands : RequesterKeeps is_own earlier opened link h run) where
+  abbrev k : ClientState
+  k = (client opened link run).state
+
+  own_answer : (xid : ℕ) → is_own xid ≡ true → is_some (found_answer xid h.state) ≡ true → is_some (find (λ (a : AnsweredCall). eqb a.xid xid) (own_answers is_own h.state)) ≡ true
+  own_answer xid own found = ap (λ (o : Option AnsweredCall). is_some o) (own_found is_own xid h.state.answered own) ∙ found
+
+  answered_outcome : (xid : ℕ) → is_own xid ≡ true → is_some (found_answer xid h.state) ≡ true → has_outcome k.outcomes xid ≡ true
+  answered_outcome xid own found = answer_holds (λ (x : ℕ). has_outcome k.outcomes x ≡ true) xid (own_answers is_own h.state) (own_outcomes is_own earlier opened link h run stands) (own_answer xid own found)
+
+  answered_before : (xid : ℕ) → is_own xid ≡ true → is_some (found_answer xid h.state) ≡ true → xid < h.state.next_xid
+  unfolding client
+  answered_before xid own found =
+      let next = stands.keeps.kept.keeps.xid in
+      let lt : xid < k.next_xid = answer_holds (λ (x : ℕ). x < k.next_xid) xid (own_answers is_own h.state) (holds_before (own_answers is_own h.state) stands.answers.holds) (own_answer xid own found) in
+      omega (arith, lt, next)
+    where
+      holds_before : (list : List AnsweredCall) → AllByRecursion (StillHolds k.next_xid k) list → AllByRecursion (λ (a : AnsweredCall). a.xid < k.next_xid) list
+      holds_before [] h = tt
+      holds_before (a ∷ list) h = (h.0.before, holds_before list h.1)
+
+  -- no outstanding call has an answer
+  pub none_answered : IsOpened opened → AskedSoFar opened link run → h.state.side.ended ≡ None → AllByRecursion (λ (c : StoredCall). is_some (found_answer c.xid h.state) ≡ false) h.state.outstanding
+  none_answered opens asked live = both_none h.state.outstanding stands.calls.outstanding (none_have is_own earlier opened link h run opens asked stands live)
+    where
+      both_none : (cs : List StoredCall) → AllByRecursion (λ (c : StoredCall). is_own c.xid ≡ true) cs → AllByRecursion (λ (c : StoredCall). has_outcome k.outcomes c.xid ≡ false) cs → AllByRecursion (λ (c : StoredCall). is_some (found_answer c.xid h.state) ≡ false) cs
+      both_none [] own none = tt
+      both_none (c ∷ cs) own none = (
+        not_some (found_answer c.xid h.state) (λ found. (let wrong : true ≡ false = sym (answered_outcome c.xid own.0 found) ∙ none.0 in cc)),
+        both_none cs own.1 none.1,
+      )
+
+  -- nor has one that still comes
+  pub none_above : (xid : ℕ) → h.state.next_xid ≤ xid → is_some (found_answer xid h.state) ≡ false
+  none_above xid above = not_some (found_answer xid h.state) (λ found. (let lt = answered_before xid (stands.calls.to_come xid above) found in absurd (omega (arith, lt, above))))
+
+-- ---- The answers of the link that it leaves
+
+same_answers : (own also : ℕ → Bool) (list : List AnsweredCall) → AllByRecursion (λ (a : AnsweredCall). also a.xid ≡ true) list →
     filter (λ (a : AnsweredCall). own a.xid) list ≡ filter (λ (a : AnsweredCall). own a.xid && also a.xid) list
 same_answers own also [] h = refl
-same_answers own also (a ∷ list) h = by (own a.xid) (λ all. same_answers own also list all) h
+same_answers own also (a ∷ list) h = by (own a.xid) (same_answers own also list h.1)
   where
     left : List AnsweredCall
     left = filter (λ (x : AnsweredCall). own x.xid) list
@@ -244,58 +330,29 @@ same_answers own also (a ∷ list) h = by (own a.xid) (λ all. same_answers own 
     right : List AnsweredCall
     right = filter (λ (x : AnsweredCall). own x.xid && also x.xid) list
 
-    by : (b : Bool) → (AllByRecursion (λ (x : AnsweredCall). also x.xid ≡ true) left → left ≡ right) → AllByRecursion (λ (x : AnsweredCall). also x.xid ≡ true) (cond b (a ∷ left) left) →
-        cond b (a ∷ left) left ≡ cond (b && also a.xid) (a ∷ right) right
-    by true go h = ap (λ (xs : List AnsweredCall). a ∷ xs) (go h.1) ∙ sym (ap (λ (b : Bool). cond b (a ∷ right) right) h.0)
-    by false go h = go h
+    by : (b : Bool) → left ≡ right → cond b (a ∷ left) left ≡ cond (b && also a.xid) (a ∷ right) right
+    by true rest = ap (λ (xs : List AnsweredCall). a ∷ xs) rest ∙ sym (ap (λ (b : Bool). cond b (a ∷ right) right) h.0)
+    by false rest = rest
 
-none_belongs : (own : Bool) (has below : Bool) → has ≡ false → (own && (has && below)) ≡ false
-none_belongs true has below none = ap (λ (b : Bool). b && below) none
-none_belongs false has below none = refl
+and_false : (b c : Bool) → c ≡ false → (b && c) ≡ false
+and_false true c e = e
+and_false false c e = refl
 
-none_above : (own : Bool) (has below : Bool) → below ≡ false → (own && (has && below)) ≡ false
-none_above true true below none = none
-none_above true false below none = refl
-none_above false has below none = refl
+none_belong : (own : ℕ → Bool) (r : RequesterState) (cs : List StoredCall) → AllByRecursion (λ (c : StoredCall). is_some (found_answer c.xid r) ≡ false) cs → AllByRecursion (λ (c : StoredCall). earlier_own own r c.xid ≡ false) cs
+none_belong own r [] h = tt
+none_belong own r (c ∷ cs) h = (and_false (own c.xid) (is_some (found_answer c.xid r)) h.0, none_belong own r cs h.1)
 
-not_own : (own : ℕ → Bool) (outcomes : List CompletedCall) (next : ℕ) (cs : List StoredCall) → AllByRecursion (λ (c : StoredCall). has_outcome outcomes c.xid ≡ false) cs → AllByRecursion (λ (c : StoredCall). (own c.xid && Belongs outcomes next c.xid) ≡ false) cs
-not_own own outcomes next [] h = tt
-not_own own outcomes next (c ∷ cs) h = (none_belongs (own c.xid) (has_outcome outcomes c.xid) (ltb c.xid next) h.0, not_own own outcomes next cs h.1)
-
--- all its own answers belong to the link, and no call that is outstanding does
-pub all_belong : (opened : LinkParameters) (link : ℕ) (h : RequesterSide) (run : List Mark) (stands : RequesterKeeps opened link h run) →
-    AllByRecursion (λ (a : AnsweredCall). Belongs (client opened link run).state.outcomes (client opened link run).state.next_xid a.xid ≡ true) (own_answers stands.is_own h.state)
-unfolding client
-all_belong opened link h run stands =
-    let k : ClientState = (client opened link run).state in
-    let answers : List AnsweredCall = own_answers stands.is_own h.state in
-    belong opened k.outcomes k.next_xid k answers
-    (of_answers (λ (xid : ℕ). has_outcome k.outcomes xid ≡ true) answers
-    (subst (λ (cs : List CompletedCall). AllByRecursion (λ (c : CompletedCall). has_outcome k.outcomes c.xid ≡ true) cs) (sym stands.answers.outcomes)
-    (fewer_outcomes (λ (c : CompletedCall). has_outcome k.outcomes c.xid ≡ true) (λ (c : CompletedCall). is_due link run c.xid) k.outcomes (all_outcomes k.outcomes))))
-    stands.answers.holds
-
-pub none_have : (opened : LinkParameters) (link : ℕ) (h : RequesterSide) (run : List Mark) → IsOpened opened → AskedSoFar opened link run → RequesterKeeps opened link h run → h.state.side.ended ≡ None →
-    AllByRecursion (λ (c : StoredCall). has_outcome (client opened link run).state.outcomes c.xid ≡ false) h.state.outstanding
-none_have opened link h run opens asked stands live =
-    let k : ClientState = (client opened link run).state in
-    let keeps = stands.keeps.kept.keeps in
-    kept_xids (λ (xid : ℕ). has_outcome k.outcomes xid ≡ false) k h.state.sent h.state.outstanding (numbered_calls k) (keeps.calls (sym keeps.ended ∙ live)).kept (calls_unanswered opened link run opens asked)
-
-pub answers_stay : AnswersStay
-unfolding calls_again client
-answers_stay opened link h run opens asked stands live =
-    let k : ClientState = (client opened link run).state in
-    let keeps = stands.keeps.kept.keeps in
-    let own : ℕ → Bool = stands.is_own in
-    let same : own_answers own h.state ≡ filter (λ (a : AnsweredCall). own a.xid && Belongs k.outcomes k.next_xid a.xid) h.state.answered =
-    same_answers own (Belongs k.outcomes k.next_xid) h.state.answered (all_belong opened link h run stands) in
+pub earlier_stays : (is_own : ℕ → Bool) (earlier : ℕ) (opened : LinkParameters) (link : ℕ) (h : RequesterSide) (run : List Mark) (staging : List ℕ) → IsOpened opened → AskedSoFar opened link run → RequesterKeeps is_own earlier opened link h run → h.state.side.ended ≡ None →
+    KeepsEarlier (earlier_own is_own h.state) opened link (after_reopen h staging) run
+unfolding after_reopen calls_again client
+earlier_stays is_own earlier opened link h run staging opens asked stands live =
+    let same : own_answers is_own h.state ≡ own_answers (earlier_own is_own h.state) h.state =
+    same_answers is_own (λ (xid : ℕ). is_some (found_answer xid h.state)) h.state.answered (all_answered h.state.answered) in
     record {
-      is_own = λ (xid : ℕ). own xid && Belongs k.outcomes k.next_xid xid;
-      outstanding = not_own own k.outcomes k.next_xid (calls_again h.state).calls
-          (again_xids (λ (xid : ℕ). has_outcome k.outcomes xid ≡ false) h.state.wished h.state.outstanding (record { calls = []; memory = initial_memory h.state.side.memory.next; messages = [] })
-          (none_have opened link h run opens asked stands live) tt);
-      to_come = λ xid above. none_above (own xid) (has_outcome k.outcomes xid) (ltb xid k.next_xid) (le-ltb xid k.next_xid (let x = keeps.xid in omega (arith, above, x)));
+      outstanding = none_belong is_own h.state (calls_again h.state).calls
+          (again_xids (λ (xid : ℕ). is_some (found_answer xid h.state) ≡ false) h.state.wished h.state.outstanding (record { calls = []; memory = initial_memory h.state.side.memory.next; messages = [] })
+          (none_answered is_own earlier opened link h run stands opens asked live) tt);
+      to_come = λ xid above. and_false (is_own xid) (is_some (found_answer xid h.state)) (none_above is_own earlier opened link h run stands xid above);
       outcomes = ap (λ (list : List AnsweredCall). map completed_of list) (sym same) ∙ stands.answers.outcomes;
       hands_back = subst (λ (list : List AnsweredCall). AllByRecursion (HandsBack opened (events link Initiator run)) list) same stands.answers.hands_back;
       calls = subst (λ (list : List AnsweredCall). AllByRecursion (λ (a : AnsweredCall). IsAsked (client_calls opened link run) a.xid a.call) list) same stands.answers.calls;
