@@ -1,0 +1,2 @@
+# refresh stub tree with further libraries
+bash /tmp/drill/mk.sh

@@ -1,0 +1,13 @@
+cd /work/w/eyes
+python3 docs/maintaining/clones.py gate /work/gate >/dev/null 2>&1
+LIBS=$(for c in nr_xdr nr_outside nr_rpc nr_nfs_base nr_header nr_wire nr_regions nr_link; do [ -d crates/$c/out/rlib/$c.rlib ] && echo $c; done | paste -sd,)
+echo libs $LIBS
+rm -rf /work/w/eyes-stub; mkdir -p /work/w/eyes-stub/crates
+python3 /work/notes/eyes24/stub.py $LIBS
+cp -r crates/nr_laws /work/w/eyes-stub/crates/; rm -rf /work/w/eyes-stub/crates/nr_laws/out
+python3 - <<'P'
+need='nr_xdr nr_outside nr_rpc nr_nfs_base nr_header nr_wire nr_regions nr_link nr_reduce nr_laws'.split()
+out=[l for l in open('/work/w/eyes/crates.txt') if l.split(':')[0] in need]
+open('/work/w/eyes-stub/crates.txt','w').writelines(out)
+P
+for c in nr_rpc nr_nfs_base nr_header; do [ -d /work/w/eyes/crates/$c/out/rlib/$c.rlib ] || { rm -rf /work/w/eyes-stub/crates/$c; cp -r /work/w/eyes/crates/$c /work/w/eyes-stub/crates/; }; done
