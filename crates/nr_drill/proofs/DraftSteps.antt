@@ -22,7 +22,8 @@ use Rattle.nr_drill.specs.declared.draft.Draft.{Draft}
 use Rattle.nr_drill.specs.Drill.{Setting, link_of, client_of, is_sent_again, journal_of}
 use Rattle.nr_drill.specs.Reports.{submitted_state, number_of, last_place, done_state, with_call_line, reports_after}
 use Rattle.nr_drill.specs.private.Drafts.{AreEmpty, AreNumbered, Executed, IsDraft, IsTable, Noted, NotedOf, NumberedMark, Same, Submitted, SubmittedIf, entries_if, entries_so_far, is_again, is_earlier, is_earlier_in, new_at, new_calls, place_on, state_done, submits_of}
-use Rattle.nr_drill.proofs.DraftTables.{IsIdle, IsClosed, in_more, get_set_other, get_set_same, reports_one, idle_table, table_at, same, ended, done_agrees, earlier_is, submit_idle, again_table, own_line, other_line, own_place, other_place}
+use Rattle.nr_drill.proofs.DraftLists.{IsClosed, in_more, get_set_other, get_set_same, reports_one}
+use Rattle.nr_drill.proofs.DraftTables.{IsIdle, idle_table, table_at, same, ended, done_agrees, earlier_is, submit_idle, again_table, own_line, other_line, own_place, other_place}
 
 -- ===== a mark more
 

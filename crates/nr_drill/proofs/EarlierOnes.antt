@@ -18,11 +18,11 @@ use Rattle.nr_drill.proofs.BegunOrder.{LinksInOrder, IsIn, step_is_next, none_be
 
 -- ===== lists
 
-abbrev first_or : {X : Type 0} → List X → X → X
+abbrev pub first_or : {X : Type 0} → List X → X → X
 first_or [] other = other
 first_or (x ∷ xs) other = x
 
-abbrev rest_of : {X : Type 0} → List X → List X
+abbrev pub rest_of : {X : Type 0} → List X → List X
 rest_of [] = []
 rest_of (x ∷ xs) = xs
 
@@ -36,7 +36,7 @@ front_or {X = X} (x ∷ xs) (y ∷ ys) us vs e = by (ap (λ (all : List X). firs
     by same (inl p) = inl (p.0, (λ i. same i ∷ p.1 i))
     by same (inr p) = inr (p.0, (λ i. sym same i ∷ p.1 i))
 
-front_none : (link : ℕ) (run more : List Mark) → NoMarkOf link (run ++ more) → NoMarkOf link run
+pub front_none : (link : ℕ) (run more : List Mark) → NoMarkOf link (run ++ more) → NoMarkOf link run
 front_none link [] more h = tt
 front_none link (mark ∷ run) more h = (h.0, front_none link run more h.1)
 

@@ -1,17 +1,20 @@
--- After the first lines of a script whose clients have no numbers, none of which puts bytes into pipes, a drain ends.
+-- After the first lines of a script, none of which puts bytes into pipes, a drain ends.
 use Rattle.std.specs.Prelude.{◌<◌, ◌≤◌, ◌-◌, slice_index_or}
 use Rattle.std.specs.List.{AllByRecursion}
-use Rattle.std.proofs.Common.{◌≡◌, ◌≢◌, ℕ, zero, suc, ◌+◌, arith, List, [], ◌∷◌, ◌++◌, length, Option, Some, refl, sym, ap, subst, ◌∙◌, length-append}
+use Rattle.std.proofs.Common.{◌≡◌, ◌≢◌, ℕ, zero, suc, ◌+◌, arith, Bool, true, false, List, [], ◌∷◌, ◌++◌, length, take, drop, Option, Some, refl, sym, ap, subst, ◌∙◌, length-append}
 use Rattle.nr_reduce.specs.declared.mark.Mark.{Mark}
 use Rattle.nr_reduce.specs.declared.mark.Mark.TheVariants as marks
 use Rattle.nr_reduce.specs.History.{is_dropped}
-use Rattle.nr_reduce.specs.NumberedJournal.{Standing, entries_alone, standing_for}
-use Rattle.nr_reduce.specs.NumberedJournal.Standing.{New}
+use Rattle.nr_reduce.specs.NumberedJournal.{Standing, entries_alone, number_heard, standing_for}
+use Rattle.nr_reduce.specs.NumberedJournal.Standing.{Old, Kept, New}
+use Rattle.nr_reduce.specs.declared.mark.Told.TheVariants as told
+use Rattle.nr_reduce.specs.KeepsCalls.{KeepsCalls}
+use Rattle.nr_laws.proofs.KeptEntries.{kept_numbered}
 use Rattle.nr_reduce.specs.ServerState.{ReadyCall}
-use Rattle.nr_reduce.specs.Served.{next_call}
+use Rattle.nr_reduce.specs.Served.{next_call, last_frame_at}
 use Rattle.nr_script.specs.Limits.{lines_max}
 use Rattle.nr_script.specs.declared.script.Line.{Line}
-use Rattle.nr_drill.specs.Drill.{Setting, Drill, GivenReply, client_of, setting_now, pipes_of, settled, with_mark, waiting_call, given, reply_by, standing_of, reply_given, journal_of, now, after_call, after_execution, after_work}
+use Rattle.nr_drill.specs.Drill.{Setting, Drill, GivenReply, client_of, setting_now, pipes_of, settled, with_mark, waiting_call, given, kept_reply, reply_by, standing_of, reply_given, journal_of, now, after_call, after_execution, after_work}
 use Rattle.nr_drill.specs.Follows.{setting_of, opened_drill}
 use Rattle.nr_drill.specs.WorkLeft.{DrainStep, after_step}
 use Rattle.nr_drill.specs.WorkLeft.DrainStep.{AllUp, Work, AllDown}
@@ -26,9 +29,11 @@ use Rattle.nr_drill.proofs.BegunLinks.{first_then}
 use Rattle.nr_drill.proofs.CarriedLinks.{CarriesThen, ClientCarries, carries_kept, first_carries}
 use Rattle.nr_drill.proofs.ByteDrills.{IsByteDrill, BytesThen, byte_steps, bytes_kept, first_bytes, byte_replied, next_of_lem}
 use Rattle.nr_drill.proofs.DrainedSteps.{running_from, front_of}
+use Rattle.nr_drill.proofs.KeptReplies.{IsKnown, OwnThen, first_own, kept_replied, own_kept, step_known}
+use Rattle.nr_drill.proofs.NumberedRuns.{JournaledThen, first_journaled, journaled_kept}
 use Rattle.nr_drill.proofs.LessRounds.{AllFit, AllRun, AreApart, Fits, drain_ends}
 
--- ===== a call that waits is executed, on a link of a client without a number
+-- ===== a call that waits is executed
 
 longer : (xs ys : List Mark) (m : Mark) → (xs ++ m ∷ []) ++ ys ≡ xs → ⊥
 longer xs ys m e =
@@ -37,25 +42,59 @@ longer xs ys m e =
     let two = length-append xs (m ∷ []) in
     omega (arith, all, one, two)
 
-is_new : (s : Setting) (link : ℕ) (d : Drill) (call : ReadyCall) → (s.opened link).client.number ≡ 0 → IsRunning s link d → standing_of s link d call ≡ New
-unfolding standing_of
-is_new s link d call none r = ap (λ (n : ℕ). standing_for (journal_of s d.marks) n call.xid) (r.number ∙ none)
-
-new_executed : (s : Setting) (link : ℕ) → (s.opened link).client.number ≡ 0 →
-    ((d : Drill) (call : ReadyCall) → next_call (s.opened link) link d.marks ≡ Some call → (reply : List ℕ) × (s.server.reply_to (entries_alone (journal_of s d.marks)) (now d) call.payload ≡ Some reply)) →
-    (d : Drill) (call : ReadyCall) → IsRunning s link d → waiting_call s link d.marks ≡ Some call → (after_work s link d).marks ≢ d.marks
-unfolding after_work waiting_call reply_given
-new_executed s link none answers d call r e =
-    let answer = answers d call (next_of_lem (is_dropped link d.marks) call (next_call (s.opened link) link d.marks) e) in
-    let T = journal_of s d.marks in
-    let g : GivenReply = record { moment = now d; place = length T; reply = answer.0 } in
-    let new = is_new s link d call none r in
-    let given_is : reply_given s link d call ≡ Some g =
-    ap (λ (is : Standing). reply_by s.server T (now d) call.payload is) new ∙ ap (λ (reply : Option (List ℕ)). given (now d) (length T) reply) answer.1 in
-    let mark = marks.Execute link call.xid g.moment call.payload g.place g.reply in
+moved_by : (s : Setting) (link : ℕ) (mark : Mark) (d : Drill) → after_work s link d ≡ settled s link (with_mark mark d) → (after_work s link d).marks ≢ d.marks
+moved_by s link mark d work =
     let x = settled_adds s link (with_mark mark d) in
-    let work : after_work s link d ≡ settled s link (with_mark mark d) = ap (λ (c : Option ReadyCall). after_execution s link c d) e ∙ (λ i. after_call s link call (new i) (given_is i) d) in
     λ same. longer d.marks x.marks.added mark (sym x.marks.is ∙ sym (ap (λ (o : Drill). o.marks) work) ∙ same)
+
+work_is : (s : Setting) (link : ℕ) (d : Drill) (call : ReadyCall) → waiting_call s link d.marks ≡ Some call → after_work s link d ≡ after_call s link call (standing_of s link d call) (reply_given s link d call) d
+unfolding after_work
+work_is s link d call e = ap (λ (c : Option ReadyCall). after_execution s link c d) e
+
+waiting_next : (s : Setting) (link : ℕ) (run : List Mark) (call : ReadyCall) → waiting_call s link run ≡ Some call → next_call (s.opened link) link run ≡ Some call
+unfolding waiting_call
+waiting_next s link run call e = next_of_lem (is_dropped link run) call (next_call (s.opened link) link run) e
+
+standing_is : (s : Setting) (link : ℕ) (d : Drill) (call : ReadyCall) (is : Standing) → standing_of s link d call ≡ is → standing_for (journal_of s d.marks) (number_heard d.marks link) call.xid ≡ is
+unfolding standing_of
+standing_is s link d call is e = e
+
+kept_given : (s : Setting) (link : ℕ) (d : Drill) (call : ReadyCall) (place : ℕ) (g : GivenReply) → standing_of s link d call ≡ Kept place → kept_reply s.server place (take place (journal_of s d.marks)) (drop place (journal_of s d.marks)) ≡ Some g →
+    reply_given s link d call ≡ Some g
+unfolding reply_given
+kept_given s link d call place g is e = ap (λ (x : Standing). reply_by s.server (journal_of s d.marks) (now d) call.payload x) is ∙ e
+
+new_given : (s : Setting) (link : ℕ) (d : Drill) (call : ReadyCall) (reply : List ℕ) → standing_of s link d call ≡ New → s.server.reply_to (entries_alone (journal_of s d.marks)) (now d) call.payload ≡ Some reply →
+    reply_given s link d call ≡ Some (record { moment = now d; place = length (journal_of s d.marks); reply = reply })
+unfolding reply_given
+new_given s link d call reply is e =
+    ap (λ (x : Standing). reply_by s.server (journal_of s d.marks) (now d) call.payload x) is ∙ ap (λ (r : Option (List ℕ)). given (now d) (length (journal_of s d.marks)) r) e
+
+-- A call that waits is executed, or it is old. A kept one has the reply of its entry.
+answered : (s : Setting) (link : ℕ) → ((s.opened link).client.number ≢ 0 → KeepsCalls s.server.reply_to s.server.adds) →
+    ((d : Drill) (call : ReadyCall) → next_call (s.opened link) link d.marks ≡ Some call → (reply : List ℕ) × (s.server.reply_to (entries_alone (journal_of s d.marks)) (now d) call.payload ≡ Some reply)) →
+    (d : Drill) (call : ReadyCall) → IsRunning s link d → IsKnown s.server d → waiting_call s link d.marks ≡ Some call → (after_work s link d).marks ≢ d.marks
+answered s link keeps answers d call r k e = by (standing_of s link d call) refl
+  where
+    executes : (is : Standing) (g : GivenReply) → standing_of s link d call ≡ is → reply_given s link d call ≡ Some g → after_call s link call is (Some g) d ≡ settled s link (with_mark (marks.Execute link call.xid g.moment call.payload g.place g.reply) d) →
+        (after_work s link d).marks ≢ d.marks
+    executes is g e_is e_given makes =
+        moved_by s link (marks.Execute link call.xid g.moment call.payload g.place g.reply) d (work_is s link d call e ∙ (λ i. after_call s link call (e_is i) (e_given i) d) ∙ makes)
+
+    by : (is : Standing) → standing_of s link d call ≡ is → (after_work s link d).marks ≢ d.marks
+    by (Old top) is =
+        moved_by s link (marks.Told link (told.Old call.xid (last_frame_at link d.marks))) d
+        (work_is s link d call e ∙ ap (λ (x : Standing). after_call s link call x (reply_given s link d call) d) is)
+    by (Kept place) is =
+        let T = journal_of s d.marks in
+        let n = number_heard d.marks link in
+        let at = standing_is s link d call (Kept place) is in
+        let some : (s.opened link).client.number ≢ 0 = (λ none. kept_numbered T n call.xid place at (r.number ∙ none)) in
+        let g = kept_replied s d (keeps some) k n call.xid place at in
+        executes (Kept place) g.0 is (kept_given s link d call place g.0 is g.1) refl
+    by New is =
+        let answer = answers d call (waiting_next s link d.marks call e) in
+        executes New (record { moment = now d; place = length (journal_of s d.marks); reply = answer.0 }) is (new_given s link d call answer.0 is answer.1) refl
 
 -- ===== the last links of clients
 
@@ -109,7 +148,7 @@ last_owned clients d count = owned_at (λ (c : ℕ) (link : ℕ). IsLastOf clien
 
 pub drains_end : DrainsEnd
 unfolding journal_of
-drains_end server script is none replies answers before after cut raw mid made = drain_ends t mid.last_links apart fits mid run bytes
+drains_end server script is keeps replies answers before after cut raw mid made = drain_ends t mid.last_links apart fits mid run known
   where
     s : Setting
     s = setting_of server script.opening
@@ -138,6 +177,15 @@ drains_end server script is none replies answers before after cut raw mid made =
     bytes : IsByteDrill mid
     bytes = kept.1 few
 
+    known : IsKnown server mid
+    known = record {
+      bytes = bytes;
+      journaled = (lines_kept s script.opening AnyRaw AnyRaw (JournaledThen s script.opening) (journaled_kept s script.opening) 0 (length before) clients before (opened_drill server script.opening) mid parts (all_act before) (omega arith) made
+          (first_then server script is, λ le all. first_journaled server script.opening)).1 few (byte_replied mid bytes);
+      xids = (lines_kept s script.opening AnyRaw AnyRaw (OwnThen script.opening) (own_kept s script.opening) 0 (length before) clients before (opened_drill server script.opening) mid parts (all_act before) (omega arith) made
+          (first_own server script is)).1;
+    }
+
     replied : RepliedInBytes mid.marks
     replied = byte_replied mid bytes
 
@@ -157,10 +205,14 @@ drains_end server script is none replies answers before after cut raw mid made =
         let k : KeptBySteps t link IsByteDrill = byte_steps t link (link_bytes script.opening (length before) (t.opened link) link mid.marks l) l.again (λ d typed executed. replies t.opened link d typed executed) in
         record {
           numbers = l.opened;
-          keeps = λ step d h. by k step d h;
-          answers = λ d call r byte e. new_executed t link (l.terms.unnumbered none) (λ x waiting next. answers t.opened link x waiting next) d call r e;
+          keeps = λ step d running h. step_known t link step d running.server_heard (by k step d h.bytes) h;
+          answers = λ d call r h e. answered t link (λ some. calls_kept script.opening.numbered refl (λ e_none. some (l.terms.unnumbered e_none))) (λ x waiting next. answers t.opened link x waiting next) d call r h e;
         }
       where
+        calls_kept : (b : Bool) → script.opening.numbered ≡ b → (script.opening.numbered ≡ false → ⊥) → KeepsCalls server.reply_to server.adds
+        calls_kept true is some = keeps is
+        calls_kept false is some = absurd (some is)
+
         by : KeptBySteps t link IsByteDrill → (step : DrainStep) (d : Drill) → IsByteDrill d → IsByteDrill (after_step t link step d)
         by k AllUp d h = up_keeps t link IsByteDrill k (length (pipes_of link d).up) d h
         by k Work d h = work_keeps t link IsByteDrill k d h

@@ -1,13 +1,14 @@
 -- A run that follows a script is the run of a drill: the headline.
-use Rattle.std.proofs.Common.{◌≢◌, List, refl}
+use Rattle.std.proofs.Common.{◌≢◌, List, arith, refl}
 use Rattle.nr_reduce.specs.declared.mark.Mark.{Mark}
-use Rattle.nr_reduce.specs.KeepsCalls.{KeepsCalls}
+use Rattle.nr_reduce.specs.KeepsCalls.{FitsChanges, KeepsCalls}
 use Rattle.nr_reduce.specs.KeepsReplyLimits.{KeepsReplyLimits}
 use Rattle.nr_laws.specs.EndCauses.{HasNoOldCall}
 use Rattle.nr_tree.specs.Tree.{Tree}
 use Rattle.nr_tree.specs.Sane.{IsSane}
 use Rattle.nr_plain.proofs.PlainServers.{server_is_plain}
 use Rattle.nr_plain.proofs.KeptCalls.{server_keeps_calls}
+use Rattle.nr_plain.proofs.ChangesFit.{server_fits_changes}
 use Rattle.nr_script.specs.Script.{ScriptLines}
 use Rattle.nr_drill.specs.Lines.{IsDrillScript}
 use Rattle.nr_drill.specs.Drill.{SerialServer, plain_of}
@@ -24,9 +25,10 @@ use Rattle.nr_drill.proofs.StayingLinks.{both_stay, have_completed}
 use Rattle.nr_drill.proofs.Drained.{follows_waits}
 use Rattle.nr_drill.proofs.DrainedSteps.{follows_leaves_less}
 
--- if the server is a plain one that keeps its calls, and each reply is bytes
-pub follows_is_drill : (server : SerialServer) (script : ScriptLines) (run : List Mark) → IsDrillScript script → KeepsReplyLimits (plain_of server) → KeepsCalls server.reply_to server.adds → RepliedInBytes run → Follows server script run → IsDrillRun server script run
-follows_is_drill server script run is plain keeps replied follows = record {
+-- if the server is a plain one that keeps its calls, whose replies to changes fit every offer, and each reply is bytes
+pub follows_is_drill : (server : SerialServer) (script : ScriptLines) (run : List Mark) → IsDrillScript script → KeepsReplyLimits (plain_of server) → KeepsCalls server.reply_to server.adds → FitsChanges (plain_of server) → RepliedInBytes run → Follows server script run →
+    IsDrillRun server script run
+follows_is_drill server script run is plain keeps fits replied follows = record {
   follows = follows;
   typed = typed server script run is replied follows;
   journaled = follows_journaled server script run is replied follows;
@@ -34,9 +36,9 @@ follows_is_drill server script run is plain keeps replied follows = record {
   laws = λ link within. follows_keeps server script run is replied follows link within;
   memory = λ link within. memory server script run is replied follows link within;
   outcomes = λ link within matched. completes server script run is replied follows plain keeps link within matched;
-  changes = λ link within known. changes server script run is replied follows plain keeps link within known;
-  places = λ link other executing within other_within executing_within same matched other_matched executing_matched.
-      places_rise server script run is replied follows keeps.one link other executing within other_within executing_within same matched other_matched executing_matched;
+  changes = λ link within. changes server script run is replied follows plain keeps.one fits link within;
+  places = λ link other executing within other_within executing_within same matched executing_matched.
+      places_rise server script run is replied follows keeps.one link other executing within other_within executing_within same matched executing_matched;
   once = once server script run is replied follows keeps.one;
   entries = λ link within numbered matched. entries server script run is replied follows keeps link within numbered matched;
   staying = λ link within matched standing kept_memory conveyed.
@@ -44,10 +46,10 @@ follows_is_drill server script run is plain keeps replied follows = record {
       let both = both_stay server script run is replied follows plain keeps link within matched old kept_memory conveyed in record {
         client_stays = both.0;
         server_stays = both.1;
-        complete = λ ends. (let waits = follows_waits server script run is replied follows link within (matched link within.0 refl) standing ends in
+        complete = λ ends. (let waits = follows_waits server script run is replied follows link within (matched link within.0 (omega arith) refl) standing ends in
             (waits, have_completed server script run is replied follows plain keeps link within matched old kept_memory conveyed waits));
         done = λ ends. (have_completed server script run is replied follows plain keeps link within matched old kept_memory conveyed
-            (follows_waits server script run is replied follows link within (matched link within.0 refl) standing ends)).has_done (follows_keeps server script run is replied follows link within).handed;
+            (follows_waits server script run is replied follows link within (matched link within.0 (omega arith) refl) standing ends)).has_done (follows_keeps server script run is replied follows link within).handed;
       });
   drains = λ link within. follows_leaves_less server script run is replied (typed server script run is replied follows) follows link;
 }
@@ -57,4 +59,4 @@ pub drill_is_run : (tree : Tree) (script : ScriptLines) (run : List Mark) → Is
     IsDrillRun (server_of (drill_setup tree script.opening)) script run
 drill_is_run tree script run sane is replied follows =
     let setup = drill_setup tree script.opening in
-    follows_is_drill (server_of setup) script run is (server_is_plain setup sane) (server_keeps_calls setup) replied follows
+    follows_is_drill (server_of setup) script run is (server_is_plain setup sane) (server_keeps_calls setup) (server_fits_changes setup) replied follows

@@ -1,6 +1,7 @@
 -- What steps of a drain write down are of their types, if the server replies in bytes.
-use Rattle.std.specs.Prelude.{slice_get, take, drop}
-use Rattle.std.proofs.Common.{◌≡◌, ℕ, zero, suc, Bool, true, false, List, [], ◌∷◌, ◌++◌, length, Option, None, Some, refl, sym, ap, subst}
+use Rattle.std.specs.Prelude.{◌-◌, ◌&&◌, if◌then◌else◌, is_none, map, slice_get, take, drop}
+use Rattle.std.specs.List.{AllByRecursion}
+use Rattle.std.proofs.Common.{◌≡◌, ℕ, zero, suc, Bool, true, false, List, [], ◌∷◌, ◌++◌, length, Option, None, Some, refl, sym, ap, subst, append-nil, append_assoc}
 use Rattle.nr_xdr.specs.Item.{IsBytes}
 use Rattle.nr_xdr.proofs.WordBytes.{IsBytes_take}
 use Rattle.nr_xdr.proofs.Chains.{IsBytes_right}
@@ -17,10 +18,21 @@ use Rattle.nr_laws.specs.Typed.{TypedMark, IsTyped}
 use Rattle.nr_script.proofs.ByteLists.{no_bytes_lem}
 use Rattle.nr_drill.specs.Drill.{Setting, Drill, Pipes, pipes_of, with_mark, unwritten, after_output, after_all_output, settled, after_feeding, after_feeding_up, after_feeding_down, after_up, after_handing, after_done, after_dones, after_outcomes, waiting_call, after_answer, after_execution, after_work, GivenReply, standing_of, reply_given, after_call}
 use Rattle.nr_drill.specs.WorkLeft.DrainStep.{AllUp, Work, AllDown}
-use Rattle.nr_drill.specs.Drains.{AnswersInBytesAt, StepsKeepTypes}
-use Rattle.nr_byte_laws.proofs.ByteClients.{client_due, none_again}
+use Rattle.nr_drill.specs.Drains.{AnswersInBytesAt, IsTypedAgain, StepsKeepTypes}
+use Rattle.nr_byte_laws.proofs.ByteClients.{client_due}
 use Rattle.nr_byte_laws.proofs.ByteServers.{server_due}
-use Rattle.nr_drill.proofs.FirstLinks.{down_is}
+use Rattle.nr_drill.specs.Drill.{resend_mark, after_resends, after_down}
+use Rattle.nr_drill.proofs.TypedDrills.{IsPlanned, WaitsTyped, resumed_bytes, waits_typed}
+use Rattle.nr_laws.proofs.WaitingCalls.{resumes_planned}
+use Rattle.nr_byte_laws.specs.DueBytes.{AreInBytes}
+use Rattle.nr_link.specs.declared.agreement.Agreement.{Agreement}
+use Rattle.nr_reduce.specs.declared.mark.LinkParameters.{LinkParameters}
+use Rattle.nr_reduce.specs.declared.mark.ResumedCall.{ResumedCall}
+use Rattle.nr_reduce.specs.ClientState.{ClientState, WaitingCall}
+use Rattle.nr_reduce.specs.EndRules.{EndState}
+use Rattle.nr_reduce.specs.Opening.{IsOpened, IsResumed, lengths_before}
+use Rattle.nr_reduce.specs.Run.{client}
+use Rattle.nr_reduce.specs.SubmitAnswer.{calls_to_resend}
 use Rattle.nr_reduce.specs.NumberedJournal.{Standing}
 use Rattle.nr_reduce.specs.NumberedJournal.Standing.{Old, Kept, New}
 use Rattle.nr_reduce.specs.Served.{last_frame_at}
@@ -73,21 +85,58 @@ executes : (s : Setting) (link : ℕ) (call : Option ReadyCall) (d : Drill) → 
 executes s link None d replies is h = h
 executes s link (Some call) d replies is h = makes s link call (standing_of s link d call) (reply_given s link d call) d (λ g given. replies call g is given) h
 
+-- ----- calls that are sent again
+
+front_typed : (n : ℕ) (ws : List WaitingCall) → AllByRecursion WaitsTyped ws → AllByRecursion WaitsTyped (take n ws)
+front_typed zero ws h = tt
+front_typed (suc n) [] h = tt
+front_typed (suc n) (w ∷ ws) h = (h.0, front_typed n ws h.1)
+
+again_typed : (o : LinkParameters) (link : ℕ) (run : List Mark) → AllByRecursion IsTypedAgain o.resumed → AllByRecursion WaitsTyped (calls_to_resend (client o link run))
+unfolding calls_to_resend
+again_typed o link run again = by (is_none k.ended && k.state.has_hello)
+  where
+    k : EndState ClientState
+    k = client o link run
+
+    by : (b : Bool) → AllByRecursion WaitsTyped (if b then take (k.state.grant - length k.state.outstanding) k.state.waiting else [])
+    by true = front_typed (k.state.grant - length k.state.outstanding) k.state.waiting (waits_typed o link run again)
+    by false = tt
+
+each_again : (link : ℕ) (run : List Mark) (ws : List WaitingCall) → AllByRecursion WaitsTyped ws → IsTyped run → IsTyped (run ++ map (resend_mark link) ws)
+each_again link run [] typed h = subst IsTyped (sym (append-nil run)) h
+each_again link run (w ∷ ws) typed h =
+    subst IsTyped (append_assoc run (resend_mark link w ∷ []) (map (resend_mark link) ws))
+    (each_again link (run ++ resend_mark link w ∷ []) ws typed.1 (AtEachMark_more TypedMark [] run (resend_mark link w) h typed.0))
+
+resends_typed : (s : Setting) (link : ℕ) (d : Drill) → AllByRecursion IsTypedAgain (s.opened link).resumed → IsTyped d.marks → IsTyped (after_resends s link d).marks
+unfolding after_resends
+resends_typed s link d again h = each_again link d.marks (calls_to_resend (client (s.opened link) link d.marks)) (again_typed (s.opened link) link d.marks again) h
+
+-- what they send is bytes
+each_planned : (agreed : Agreement) (rs : List ResumedCall) → AllByRecursion (IsResumed agreed) rs → AllByRecursion IsPlanned rs
+each_planned agreed [] planned = tt
+each_planned agreed (r ∷ rs) planned = (planned.0.planned, each_planned agreed rs planned.1)
+
+again_bytes : (o : LinkParameters) → IsOpened o → AllByRecursion IsTypedAgain o.resumed → AreInBytes Initiator o
+again_bytes o numbers again = resumed_bytes o.resumed (each_planned (lengths_before o.agreed) o.resumed (resumes_planned o numbers)) again
+
 pub steps_keep_types : StepsKeepTypes
-unfolding after_up after_outcomes after_work
-steps_keep_types s link AllUp d start running replies typed =
+unfolding after_up after_down after_outcomes after_work
+steps_keep_types s link AllUp d numbers again running replies typed =
     let pipes = pipes_of link d in
     let bytes = pipe_bytes _ pipes.up (bytes_sent link Initiator d.marks) (is_dropped link d.marks) running.up (λ gone. ap (λ (p : Pipes). p.up) (running.gone gone))
-    (subst IsBytes (sym running.asked.written) (client_due (s.opened link) link d.marks (none_again (s.opened link) start.resumed) typed)) in
+    (subst IsBytes (sym running.asked.written) (client_due (s.opened link) link d.marks (again_bytes (s.opened link) numbers again) typed)) in
     settles s link (after_feeding_up link (length pipes.up) d)
     (feeds link Responder (take (length pipes.up) pipes.up) (record pipes { up = drop (length pipes.up) pipes.up }) d (IsBytes_take (length pipes.up) pipes.up bytes) typed)
-steps_keep_types s link Work d start running replies typed = executes s link (waiting_call s link d.marks) d replies refl typed
-steps_keep_types s link AllDown d start running replies typed =
+steps_keep_types s link Work d numbers again running replies typed = executes s link (waiting_call s link d.marks) d replies refl typed
+steps_keep_types s link AllDown d numbers again running replies typed =
     let pipes = pipes_of link d in
     let bytes = pipe_bytes _ pipes.down (bytes_sent link Responder d.marks) (is_dropped link d.marks) running.down (λ gone. ap (λ (p : Pipes). p.down) (running.gone gone))
     (subst IsBytes (sym running.served.written) (server_due (s.opened link) link d.marks typed)) in
     let fed = after_feeding_down link (length pipes.down) d in
-    subst (λ (x : Drill). IsTyped x.marks) (sym (down_is s link (length pipes.down) d start))
-    (settles s link (after_outcomes s link fed)
-    (dones s link (length (outcomes_due (s.opened link) link fed.marks)) fed
+    let resent = after_resends s link fed in
+    settles s link (after_outcomes s link resent)
+    (dones s link (length (outcomes_due (s.opened link) link resent.marks)) resent
+    (resends_typed s link fed again
     (feeds link Initiator (take (length pipes.down) pipes.down) (record pipes { down = drop (length pipes.down) pipes.down }) d (IsBytes_take (length pipes.down) pipes.down bytes) typed)))

@@ -28,7 +28,8 @@ use Rattle.nr_drill.specs.WorkLeft.DrainStep.{AllUp, Work, AllDown}
 use Rattle.nr_drill.specs.DrainSteps.{Moves}
 use Rattle.nr_drill.specs.Drains.{IsRunning}
 use Rattle.nr_drill.specs.Unnumbered.{Heard}
-use Rattle.nr_drill.proofs.ByteDrills.{IsByteDrill, next_of_lem}
+use Rattle.nr_drill.proofs.ByteDrills.{next_of_lem}
+use Rattle.nr_drill.proofs.KeptReplies.{IsKnown}
 use Rattle.nr_drill.proofs.Followed.{Extends, no_event, elsewhere, moves_adds}
 use Rattle.nr_drill.proofs.Carried.{Carries, same_here, settled_same, dones_keep, carries_up, carries_work, carries_down, carries_elsewhere}
 use Rattle.nr_drill.proofs.Lawful.{Keeps, NoneAgain, lawful_after_up, lawful_work, lawful_after_down}
@@ -162,9 +163,9 @@ same_still s link old new a = λ i.
 
 -- ===== the steps of a link
 
--- a drill on which a link runs, and in which all that is written down is bytes
+-- a drill on which a link runs, and of which is known what each step keeps
 abbrev Good : Setting → ℕ → Drill → Type 0
-Good s link d = IsRunning s link d × IsByteDrill d
+Good s link d = IsRunning s link d × IsKnown s.server d
 
 step_keeps : (s : Setting) (link : ℕ) (step : DrainStep) (d : Drill) → IsOpened (s.opened link) → Keeps s link d → Keeps s link (after_step s link step d)
 step_keeps s link AllUp d numbers h = lawful_after_up s link (length (pipes_of link d).up) d h
@@ -192,14 +193,14 @@ other_runs s link other old new ne apart x r =
     running_from s link new (same.lawful h.0, same.written h.0 h.1, ap (λ (k : EndState ClientState). calls_to_resend k) same.same_client ∙ h.2) (carries_elsewhere link other old new ne apart x (running_carries s link old r))
     (heard_by_lem (s.opened link) link other old new x (running_heard s link old r))
 
--- What is asked of a link: it was opened in range, steps of it keep what is written down bytes, and a call that waits is executed, or refused as old.
+-- What is asked of a link: it was opened in range, steps of it keep what is known, and a call that waits is executed, or refused as old.
 pub record Fits (s : Setting) (link : ℕ) : Type 0 where
   pub numbers : IsOpened (s.opened link)
-  pub keeps : (step : DrainStep) (d : Drill) → IsByteDrill d → IsByteDrill (after_step s link step d)
-  pub answers : (d : Drill) (call : ReadyCall) → IsRunning s link d → IsByteDrill d → waiting_call s link d.marks ≡ Some call → (after_work s link d).marks ≢ d.marks
+  pub keeps : (step : DrainStep) (d : Drill) → IsRunning s link d → IsKnown s.server d → IsKnown s.server (after_step s link step d)
+  pub answers : (d : Drill) (call : ReadyCall) → IsRunning s link d → IsKnown s.server d → waiting_call s link d.marks ≡ Some call → (after_work s link d).marks ≢ d.marks
 
 good_step : (s : Setting) (link : ℕ) → Fits s link → (step : DrainStep) (d : Drill) → Good s link d → Good s link (after_step s link step d)
-good_step s link f step d g = (step_runs s link step d f.numbers g.0, f.keeps step d g.1)
+good_step s link f step d g = (step_runs s link step d f.numbers g.0, f.keeps step d g.0 g.1)
 
 idle_up : (s : Setting) (link : ℕ) (d : Drill) → IsRunning s link d → (pipes_of link d).up ≡ [] → after_all_up s link d ≡ d
 unfolding after_up
@@ -271,7 +272,7 @@ down_not_more s link f d g = by (pipes_of link d).down refl
   where
     by : (xs : List ℕ) → (pipes_of link d).down ≡ xs → NotMore (work_left s (after_all_down s link d) link) (work_left s d link)
     by [] e = inl (idle_down s link d g.0 e)
-    by (b ∷ xs) e = inr (down_less_lem s link d f.numbers (running_keeps s link d g.0) (running_carries s link d g.0) g.0.client_heard (λ none. some b xs (sym e ∙ none)) (f.keeps AllDown d g.1).typed.typed)
+    by (b ∷ xs) e = inr (down_less_lem s link d f.numbers (running_keeps s link d g.0) (running_carries s link d g.0) g.0.client_heard (λ none. some b xs (sym e ∙ none)) (f.keeps AllDown d g.0 g.1).bytes.typed.typed)
       where
         some : (b : ℕ) (xs : List ℕ) → b ∷ xs ≡ [] → ⊥
         some b xs x = absurd cc
@@ -382,7 +383,7 @@ moves_less s link f d g e = by (still_cases (pipes_of link d).up (pipes_of link 
     by (inr (none, inr (waits, some))) =
         idle none
         (subst (λ (x : Drill). IsLess (work_left s (after_all_down s link x) link) (work_left s d link)) (sym (calls_idle s link (ready_after d) d waits))
-        (down_less_lem s link d f.numbers (running_keeps s link d g.0) (running_carries s link d g.0) g.0.client_heard some (f.keeps AllDown d g.1).typed.typed))
+        (down_less_lem s link d f.numbers (running_keeps s link d g.0) (running_carries s link d g.0) g.0.client_heard some (f.keeps AllDown d g.0 g.1).bytes.typed.typed))
 
 -- ===== a round
 
@@ -436,10 +437,10 @@ others_run s l (k ∷ links) d one others r = (
   others_run s l links d one others.1 r.1,
 )
 
--- the links of a round still run after it, and all that is written down is bytes
+-- the links of a round still run after it, and what is known is kept
 record RoundGood (s : Setting) (links : List ℕ) (new : Drill) : Type 0 where
   run : AllRun s links new
-  typed : IsByteDrill new
+  known : IsKnown s.server new
 
 round_runs : (s : Setting) (link : ℕ) (links : List ℕ) (d : Drill) → 1 ≤ link → AllByRecursion (λ (k : ℕ). (1 ≤ k) × (k ≢ link)) links → IsRunning s link d → IsRunning s link (after_round s links d)
 round_runs s link [] d one others r = r
@@ -450,13 +451,13 @@ round_runs s link (l ∷ links) d one others r =
 abbrev pub AllFit : Setting → List ℕ → Type 0
 AllFit s links = AllByRecursion (Fits s) links
 
-round_good : (s : Setting) (links : List ℕ) → AllFit s links → (d : Drill) → AreApart links → AllRun s links d → IsByteDrill d → RoundGood s links (after_round s links d)
-round_good s [] fits d apart r t = record { run = tt; typed = t }
+round_good : (s : Setting) (links : List ℕ) → AllFit s links → (d : Drill) → AreApart links → AllRun s links d → IsKnown s.server d → RoundGood s links (after_round s links d)
+round_good s [] fits d apart r t = record { run = tt; known = t }
 round_good s (l ∷ links) fits d apart r t =
     let mid = after_moves s l d in
     let g = moves_good s l fits.0 d (r.0, t) in
     let rest = round_good s links fits.1 mid apart.2 (others_run s l links d apart.0 apart.1 r.1) g.1 in
-    record { run = (round_runs s l links mid apart.0 apart.1 g.0, rest.run); typed = rest.typed }
+    record { run = (round_runs s l links mid apart.0 apart.1 g.0, rest.run); known = rest.known }
 
 not_all : (a b : Bool) → a && b ≡ false → (a ≡ false) ⊎ (b ≡ false)
 not_all true b e = inr e
@@ -475,7 +476,7 @@ record RoundLess (s : Setting) (links : List ℕ) (d new : Drill) : Type 0 where
   not_more : NotMore (all_left s links new) (all_left s links d)
   less : list_all (is_still s d) links ≡ false → IsLess (all_left s links new) (all_left s links d)
 
-round_less : (s : Setting) (links : List ℕ) → AllFit s links → (d : Drill) → AreApart links → AllRun s links d → IsByteDrill d → RoundLess s links d (after_round s links d)
+round_less : (s : Setting) (links : List ℕ) → AllFit s links → (d : Drill) → AreApart links → AllRun s links d → IsKnown s.server d → RoundLess s links d (after_round s links d)
 round_less s [] fits d apart r t = record { not_more = inl refl; less = λ e. absurd (wrong e) }
   where
     wrong : true ≡ false → ⊥
@@ -527,13 +528,13 @@ all_long s (l ∷ links) d = omega (arith, length-append (work_left s d l) (all_
 Ends : Setting → List ℕ → Drill → Type 0
 Ends s links d = (rounds : ℕ) × (new : Drill) × Drains s links rounds d new
 
--- If the server has a reply to each call that waits, and steps keep what is written down bytes: a number of rounds, and nothing moves on any of the links.
-pub drain_ends : (s : Setting) (links : List ℕ) → AreApart links → AllFit s links → (d : Drill) → AllRun s links d → IsByteDrill d → (rounds : ℕ) × (new : Drill) × Drains s links rounds d new
+-- If the server has a reply to each call that waits, and steps keep what is known: a number of rounds, and nothing moves on any of the links.
+pub drain_ends : (s : Setting) (links : List ℕ) → AreApart links → AllFit s links → (d : Drill) → AllRun s links d → IsKnown s.server d → (rounds : ℕ) × (new : Drill) × Drains s links rounds d new
 unfolding Ends
 drain_ends s links apart fits d r t = by_less (7 * length links) P step (all_left s links d) (all_long s links d) d refl r t
   where
     P : List ℕ → Type 0
-    P x = (d : Drill) → all_left s links d ≡ x → AllRun s links d → IsByteDrill d → Ends s links d
+    P x = (d : Drill) → all_left s links d ≡ x → AllRun s links d → IsKnown s.server d → Ends s links d
 
     step : (x : List ℕ) → length x ≡ 7 * length links → ((y : List ℕ) → length y ≡ 7 * length links → IsLess y x → P y) → P x
     step x long less d is r t = by (list_all (is_still s d) links) refl
@@ -544,7 +545,7 @@ drain_ends s links apart fits d r t = by_less (7 * length links) P step (all_lef
             let new = after_round s links d in
             let good = round_good s links fits d apart r t in
             let fewer = (round_less s links fits d apart r t).less e in
-            let rest = less (all_left s links new) (all_long s links new) (subst (λ (y : List ℕ). IsLess (all_left s links new) y) is fewer) new refl good.run good.typed in
+            let rest = less (all_left s links new) (all_long s links new) (subst (λ (y : List ℕ). IsLess (all_left s links new) y) is fewer) new refl good.run good.known in
             (suc rest.0, rest.1, (e, rest.2))
 
 -- ===== if no outcome is due, a step that adds a mark moves something

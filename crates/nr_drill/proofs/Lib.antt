@@ -26,8 +26,10 @@ pub mod Told
 pub mod Lookups
 pub mod Executions
 pub mod Counting
+pub mod DraftLists
 pub mod DraftTables
 pub mod DraftSteps
+pub mod NextXids
 pub mod CountedCalls
 pub mod Numbering
 pub mod TellingMarks
@@ -45,9 +47,11 @@ pub mod NumberedJournals
 pub mod NumberedRuns
 pub mod BegunOrder
 pub mod EarlierOnes
+pub mod LeftLinks
 pub mod NumberedDrills
 pub mod DrainedSteps
 pub mod PlacesByLinks
 pub mod StayingLinks
+pub mod KeptReplies
 pub mod EndingDrains
 pub mod NoOldCalls

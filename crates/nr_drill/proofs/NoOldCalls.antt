@@ -1,11 +1,9 @@
--- No call of a link that stands is old, if the links of its client are matched: the client has left no such link.
+-- No call of a link that stands is old, if it and the links before it are matched: the client has left no such link.
 use Rattle.std.proofs.Common.{◌≡◌, ◌≢◌, ℕ, ◌≤◌, ◌<◌, arith, false, List, [], ◌∷◌, ◌++◌, length, refl, sym, ap, subst, ◌∙◌, append-nil, append_assoc, ◌⊎◌, inl, inr}
-use Rattle.nr_wire.specs.declared.hello.Side.TheVariants.{Responder}
 use Rattle.nr_reduce.specs.declared.mark.Mark.{Mark}
 use Rattle.nr_reduce.specs.declared.mark.Mark.TheVariants as marks
 use Rattle.nr_reduce.specs.declared.mark.Told.TheVariants as told
 use Rattle.nr_reduce.specs.AtEachMark.{AtEachMark}
-use Rattle.nr_reduce.specs.Events.{events}
 use Rattle.nr_reduce.specs.History.{is_dropped}
 use Rattle.nr_reduce.specs.KeepsCalls.{AddsOneAtMost}
 use Rattle.nr_reduce.specs.NumberedJournal.{number_heard}
@@ -15,14 +13,14 @@ use Rattle.nr_laws.specs.OnceEach.{AcceptsWithEarlier, IsFirstOf, IsLeft}
 use Rattle.nr_laws.proofs.OldCalls.{no_call_is_old}
 use Rattle.nr_script.specs.Script.{ScriptLines}
 use Rattle.nr_drill.specs.Lines.{IsDrillScript}
-use Rattle.nr_drill.specs.Drill.{SerialServer, link_of, Setting, IsLink, client_of, last_link, journal_of}
+use Rattle.nr_drill.specs.Drill.{SerialServer, Setting, IsLink, client_of, last_link, journal_of}
 use Rattle.nr_drill.specs.Follows.{Follows, last_setting}
-use Rattle.nr_drill.specs.Headline.{LinksAreMatched}
+use Rattle.nr_drill.specs.Headline.{IsMatchedFromFirst}
 use Rattle.nr_drill.specs.InBytes.{RepliedInBytes}
-use Rattle.nr_drill.proofs.Links.{NoMarkOf, map_all}
 use Rattle.nr_drill.proofs.CarriedLinks.{follows_keeps}
-use Rattle.nr_drill.proofs.BegunOrder.{LinksInOrder, le_or, none_begun}
+use Rattle.nr_drill.proofs.BegunOrder.{LinksInOrder, le_or}
 use Rattle.nr_drill.proofs.EarlierOnes.{earlier_one}
+use Rattle.nr_drill.proofs.LeftLinks.{happened_within}
 use Rattle.nr_drill.proofs.NumberedDrills.{held, order, wrote, outside, marks_within, older, typed, numbers, opens_with, matched_with, one_each, journaled, heard_link, heard_client}
 
 -- what is so at each mark of a run is so at every mark
@@ -32,10 +30,6 @@ each_by P before (mark ∷ run) all = (
   subst (λ (b : List Mark). P b mark) (append-nil before) (all [] mark run refl),
   each_by P (before ++ mark ∷ []) run (λ part m rest e. subst (λ (b : List Mark). P b m) (sym (append_assoc before (mark ∷ []) part)) (all (mark ∷ part) m rest (ap (λ (r : List Mark). mark ∷ r) e))),
 )
-
-front_none : (link : ℕ) (run more : List Mark) → NoMarkOf link (run ++ more) → NoMarkOf link run
-front_none link [] more h = tt
-front_none link (mark ∷ run) more h = (h.0, front_none link run more h.1)
 
 module _ (server : SerialServer) (script : ScriptLines) (run : List Mark) (is : IsDrillScript script) (replied : RepliedInBytes run) (follows : Follows server script run) where
   abbrev t : Setting
@@ -49,21 +43,6 @@ module _ (server : SerialServer) (script : ScriptLines) (run : List Mark) (is : 
 
   in_order : LinksInOrder t clients links follows.last.last_links run
   in_order = order server script run is replied follows
-
-  -- a link on which something happened is one of the drill
-  happened_within : (link : ℕ) (before mark_and_after : List Mark) → run ≡ before ++ mark_and_after → events link Responder before ≢ [] → IsLink follows.last link
-  happened_within link before after cut some = by (le_or 1 link) (le_or link links)
-    where
-      none : (IsLink follows.last link → ⊥) → ⊥
-      none not =
-          let apart : NoMarkOf link run = map_all (λ (mark : Mark). IsLink follows.last (link_of mark)) (λ (mark : Mark). link_of mark ≢ link) run (λ mark within same. not (subst (IsLink follows.last) same within))
-          (marks_within server script run is replied follows) in
-          some (none_begun link before (front_none link before after (subst (NoMarkOf link) cut apart))).1
-
-      by : (1 ≤ link) ⊎ (link < 1) → (link ≤ links) ⊎ (links < link) → IsLink follows.last link
-      by (inl low) (inl few) = (low, few)
-      by (inr below) few = absurd (none (λ within. (let low = within.0 in omega (arith, low, below))))
-      by (inl low) (inr more) = absurd (none (λ within. (let most = within.1 in omega (arith, most, more))))
 
   -- the client's first link
   first_of : (link : ℕ) → IsLink follows.last link → number_heard run link ≢ 0 → IsFirstOf t.opened run (number_heard run link) (client_of t link)
@@ -96,7 +75,8 @@ module _ (server : SerialServer) (script : ScriptLines) (run : List Mark) (is : 
   -- a link that was left was dropped
   left_dropped : (link : ℕ) (before after : List Mark) → run ≡ before ++ after → IsLink follows.last link → IsLeft t.opened run link before → is_dropped link run ≡ false → ⊥
   left_dropped link before after cut within left standing =
-      let next_within = happened_within left.next before after cut left.begun in
+      let next_within =
+      happened_within t clients links follows.last.last_links run in_order (wrote server script run is replied follows) (outside server script run is replied follows) (marks_within server script run is replied follows) left.next before after cut left.begun in
       let o = older server script run is replied follows link left.next next_within left.goes_on in
       let most = in_order.last left.next next_within in
       let lower = o.2 in
@@ -105,7 +85,7 @@ module _ (server : SerialServer) (script : ScriptLines) (run : List Mark) (is : 
       (λ same. apart (let top = ap (λ (c : ℕ). last_link c follows.last) o.1 in omega (arith, same, top, most, lower))) in
       (let wrong = sym standing ∙ gone in absurd cc)
 
-  pub standing_has_no_old : AddsOneAtMost server.adds → (link : ℕ) → IsLink follows.last link → LinksAreMatched t run link → is_dropped link run ≡ false → (t.opened link).client.number ≢ 0 → HasNoOldCall link run
+  pub standing_has_no_old : AddsOneAtMost server.adds → (link : ℕ) → IsLink follows.last link → IsMatchedFromFirst t run link → is_dropped link run ≡ false → (t.opened link).client.number ≢ 0 → HasNoOldCall link run
   standing_has_no_old few link within matched standing numbered = each_by (NotOldMark link) [] run by
     where
       some : number_heard run link ≢ 0

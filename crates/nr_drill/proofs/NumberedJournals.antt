@@ -166,6 +166,23 @@ pub first_journal : (plain : PlainServer) (run more : List Mark) → AtEachMark 
 unfolding tagged_journal
 first_journal plain run more h = journal_same plain (number_heard run) (number_heard (run ++ more)) [] run (all_executed [] run more h)
 
+tagged_one : (plain : PlainServer) (number : ℕ → ℕ) (T : List TaggedEntry) (run : List Mark) (mark : Mark) → tagged_from plain number T (run ++ mark ∷ []) ≡ tagged_from plain number T run ++ tagged_by plain number (tagged_from plain number T run) mark
+tagged_one plain number T [] mark = refl
+tagged_one plain number T (m ∷ run) mark = tagged_one plain number (T ++ tagged_by plain number T m) run mark
+
+journal_one : (plain : PlainServer) (number : ℕ → ℕ) (run : List Mark) (mark : Mark) → tagged_journal plain number (run ++ mark ∷ []) ≡ tagged_journal plain number run ++ tagged_by plain number (tagged_journal plain number run) mark
+unfolding tagged_journal
+journal_one plain number run mark = tagged_one plain number [] run mark
+
+-- the journal after a mark
+pub journal_more : (s : Setting) (before : List Mark) (mark : Mark) → AtEachMark HeardMark [] before →
+    journal_of s (before ++ mark ∷ []) ≡ JournalSoFar s.server before ++ tagged_by (plain_of s.server) (number_heard (before ++ mark ∷ [])) (JournalSoFar s.server before) mark
+unfolding journal_of
+journal_more s before mark heard =
+    let number = number_heard (before ++ mark ∷ []) in
+    journal_one (plain_of s.server) number before mark
+    ∙ ap (λ (T : List TaggedEntry). T ++ tagged_by (plain_of s.server) number T mark) (sym (first_journal (plain_of s.server) before (mark ∷ []) heard))
+
 one_numbered : (server : SerialServer) (before more : List Mark) (mark : Mark) → AtEachMark HeardMark [] before → HeardMark before mark → StandingMark server before mark → NumberedMark (plain_of server) (number_heard (before ++ more)) before mark
 one_numbered server before more (marks.Execute l xid moment payload place reply) heard here stands =
     let same = first_journal (plain_of server) before more heard in

@@ -125,21 +125,21 @@ openings_journaled : (s : Setting) (links : List ℕ) (d : Drill) → IsJournale
 openings_journaled s [] d h = h
 openings_journaled s (link ∷ links) d h = openings_journaled s links (after_opening s link d) (opening_journaled s link d h)
 
-action_journaled : (s : Setting) (opening : Opening) (n c link : ℕ) (a : Action) (d : Drill) → IsLastOf opening.clients c link d → DrillHolds s opening n d → IsJournaled s.server d → IsJournaled s.server (after_action (setting_now s d) link a d)
-action_journaled s opening n c link a d last holds h =
-    let t = setting_now s d in
+pub acted_journaled : (t : Setting) (link : ℕ) (a : Action) (d : Drill) → frames_of Initiator (bytes_received link Responder d.marks) ≢ [] → IsJournaled t.server d → IsJournaled t.server (after_action t link a d)
+acted_journaled t link a d heard h =
     let x : Extends link d (after_action t link a d) = action_extends t link a d in
-    let own = holds.frame.owned c link last in
-    let l = holds.links link own.0 in
     record {
-      stands = each_then (StandingMark s.server) d (after_action t link a d) (action_by (StandingMark s.server) t link (standing_actions t link) a d) h.stands;
-      heard = each_then HeardMark d (after_action t link a d) (record { added = x.marks.added; is = x.marks.is; each = heard_from link d.marks x.marks.added x.marks.own l.heard.server }) h.heard;
+      stands = each_then (StandingMark t.server) d (after_action t link a d) (action_by (StandingMark t.server) t link (standing_actions t link) a d) h.stands;
+      heard = each_then HeardMark d (after_action t link a d) (record { added = x.marks.added; is = x.marks.is; each = heard_from link d.marks x.marks.added x.marks.own heard }) h.heard;
     }
 
-abbrev JournaledThen : Setting → Opening → ℕ → Drill → Type 0
+action_journaled : (s : Setting) (opening : Opening) (n c link : ℕ) (a : Action) (d : Drill) → IsLastOf opening.clients c link d → DrillHolds s opening n d → IsJournaled s.server d → IsJournaled s.server (after_action (setting_now s d) link a d)
+action_journaled s opening n c link a d last holds h = acted_journaled (setting_now s d) link a d (holds.links link (holds.frame.owned c link last).0).heard.server h
+
+abbrev pub JournaledThen : Setting → Opening → ℕ → Drill → Type 0
 JournaledThen s opening n d = Holds s opening n d × (n ≤ lines_max → RepliedInBytes d.marks → IsJournaled s.server d)
 
-journaled_kept : (s : Setting) (opening : Opening) → IsKept s opening AnyRaw AnyRaw (JournaledThen s opening)
+pub journaled_kept : (s : Setting) (opening : Opening) → IsKept s opening AnyRaw AnyRaw (JournaledThen s opening)
 journaled_kept s opening =
     let k = holds_kept s opening AnyRaw AnyRaw in
     record {
@@ -165,7 +165,7 @@ journaled_kept s opening =
       );
     }
 
-first_journaled : (server : SerialServer) (opening : Opening) → IsJournaled server (opened_drill server opening)
+pub first_journaled : (server : SerialServer) (opening : Opening) → IsJournaled server (opened_drill server opening)
 unfolding opened_drill
 first_journaled server opening = openings_journaled (setting_of server opening) (links_of opening.clients) (start (setting_of server opening) opening.clients) (record { stands = tt; heard = tt })
 

@@ -9,8 +9,7 @@ use Rattle.nr_reduce.specs.declared.mark.Mark.{Mark}
 use Rattle.nr_reduce.specs.declared.mark.Mark.TheVariants as marks
 use Rattle.nr_reduce.specs.declared.mark.TaggedEntry.{TaggedEntry}
 use Rattle.nr_reduce.specs.AtEachMark.{AtEachMark}
-use Rattle.nr_reduce.specs.PlainJournal.{PlainServer}
-use Rattle.nr_reduce.specs.NumberedJournal.{Standing, IsExecutedBy, added_by, entries_alone, number_heard, standing_for, tagged, tagged_by, tagged_from, tagged_journal}
+use Rattle.nr_reduce.specs.NumberedJournal.{Standing, IsExecutedBy, added_by, entries_alone, number_heard, standing_for, tagged, tagged_by}
 use Rattle.nr_reduce.specs.NumberedJournal.Standing.{Old, Kept, New}
 use Rattle.nr_reduce.proofs.SoFarLaws.{AtEachMark_each}
 use Rattle.nr_reduce.proofs.Standing.{AtEachMark_more}
@@ -26,24 +25,17 @@ use Rattle.nr_drill.specs.LinkEnds.{AreClients}
 use Rattle.nr_drill.specs.private.Drafts.{AreNumbered, HasNextXid, NumberedMark, client_in, entries_given, entries_if, entries_so_far}
 use Rattle.nr_drill.proofs.Followed.{apart}
 use Rattle.nr_drill.proofs.Journals.{tagged_alone, both_alone, length_alone}
-use Rattle.nr_drill.proofs.NumberedJournals.{HeardMark, JournalSoFar, StandingMark, first_journal}
+use Rattle.nr_drill.proofs.NumberedJournals.{HeardMark, JournalSoFar, StandingMark, journal_more}
 use Rattle.nr_drill.proofs.NumberedRuns.{follows_stands}
 use Rattle.nr_drill.proofs.Opening.{number_more}
 use Rattle.nr_drill.proofs.BegunLinks.{lines_hold}
 use Rattle.nr_drill.proofs.BegunOrder.{InOrder, links_in_order}
 use Rattle.nr_drill.proofs.Actions.{IsLastOf}
 use Rattle.nr_drill.proofs.EndingDrains.{Owned, owned_map, last_owned}
-use Rattle.nr_drill.proofs.CountedCalls.{AreCounted, IsOfLatest, calls_are_counted}
+use Rattle.nr_drill.proofs.CountedCalls.{AreCounted, calls_are_counted}
+use Rattle.nr_drill.proofs.NextXids.{IsOfLatest}
 
 -- ===== what an execution adds to the journal
-
-tagged_one : (plain : PlainServer) (number : ℕ → ℕ) (T : List TaggedEntry) (run : List Mark) (mark : Mark) → tagged_from plain number T (run ++ mark ∷ []) ≡ tagged_from plain number T run ++ tagged_by plain number (tagged_from plain number T run) mark
-tagged_one plain number T [] mark = refl
-tagged_one plain number T (m ∷ run) mark = tagged_one plain number (T ++ tagged_by plain number T m) run mark
-
-journal_one : (plain : PlainServer) (number : ℕ → ℕ) (run : List Mark) (mark : Mark) → tagged_journal plain number (run ++ mark ∷ []) ≡ tagged_journal plain number run ++ tagged_by plain number (tagged_journal plain number run) mark
-unfolding tagged_journal
-journal_one plain number run mark = tagged_one plain number [] run mark
 
 -- a new call is executed at the journal's end, and a kept one before it
 entered : (server : SerialServer) (T : List TaggedEntry) (n xid : ℕ) (moment : Moment) (payload : List ℕ) (place : ℕ) (reply : List ℕ) (is : Standing) → server.adds ≡ entries_of_call → IsExecutedBy (plain_of server) T is moment payload place reply →
@@ -69,25 +61,17 @@ module _ (s : Setting) (adds : s.server.adds ≡ entries_of_call) (before : List
   abbrev so_far : List TaggedEntry
   so_far = JournalSoFar s.server before
 
-  -- the journal after a mark, by the numbers heard until then
-  journal_more : (mark : Mark) → journal_of s (before ++ mark ∷ []) ≡ so_far ++ tagged_by (plain_of s.server) (number_heard (before ++ mark ∷ [])) so_far mark
-  unfolding journal_of
-  journal_more mark =
-      let number = number_heard (before ++ mark ∷ []) in
-      journal_one (plain_of s.server) number before mark
-      ∙ ap (λ (T : List TaggedEntry). T ++ tagged_by (plain_of s.server) number T mark) (sym (first_journal (plain_of s.server) before (mark ∷ []) heard))
-
   -- a mark that executes nothing
   none_entered : (mark : Mark) → tagged_by (plain_of s.server) (number_heard (before ++ mark ∷ [])) so_far mark ≡ [] → entries_given (length (entries_so_far s before)) mark ≡ [] → Enters s before mark
   unfolding journal_of
   none_entered mark none given =
-      ap entries_alone (journal_more mark ∙ ap (λ (U : List TaggedEntry). so_far ++ U) none ∙ append-nil so_far) ∙ sym (append-nil (entries_alone so_far)) ∙ ap (λ (es : List Entry). entries_alone so_far ++ es) (sym given)
+      ap entries_alone (journal_more s before mark heard ∙ ap (λ (U : List TaggedEntry). so_far ++ U) none ∙ append-nil so_far) ∙ sym (append-nil (entries_alone so_far)) ∙ ap (λ (es : List Entry). entries_alone so_far ++ es) (sym given)
 
   enters : (mark : Mark) → HeardMark before mark → StandingMark s.server before mark → Enters s before mark
   unfolding journal_of
   enters (marks.Execute l xid moment payload place reply) here stands =
       let mark = marks.Execute l xid moment payload place reply in
-      ap entries_alone (journal_more mark)
+      ap entries_alone (journal_more s before mark heard)
       ∙ ap (λ (n : ℕ). entries_alone (so_far ++ added_by (standing_for so_far n xid) (map (tagged n xid) (s.server.adds moment payload reply)))) (number_more l before (mark ∷ []) here)
       ∙ entered s.server so_far (number_heard before l) xid moment payload place reply (standing_for so_far (number_heard before l) xid) adds (stands here)
   enters (marks.Submit l call form answer) here stands = none_entered (marks.Submit l call form answer) refl refl

@@ -1,5 +1,5 @@
--- A script has one run at most.
-use Rattle.std.proofs.Common.{◌≡◌, ℕ, zero, suc, List, [], ◌∷◌, sym, ap, ◌∙◌, subst}
+-- A script has one run at most; and what is made by lines and by one more is made by all of them.
+use Rattle.std.proofs.Common.{◌≡◌, ℕ, zero, suc, List, [], ◌∷◌, ◌++◌, refl, sym, ap, ◌∙◌, subst}
 use Rattle.nr_reduce.specs.declared.mark.Mark.{Mark}
 use Rattle.nr_script.specs.declared.script.Line.{Line}
 use Rattle.nr_script.specs.declared.script.Line.TheVariants as lines
@@ -38,3 +38,7 @@ pub one_run : (server : SerialServer) (script : ScriptLines) (run other : List M
 one_run server script run other h g =
     let same : h.last ≡ g.last = made_once (setting_of server script.opening) script.opening.clients script.lines (opened_drill server script.opening) h.last g.last h.makes g.makes in
     h.marks_are ∙ ap (λ (d : Drill). d.marks) same ∙ sym g.marks_are
+
+pub last_made : (s : Setting) (clients : ℕ) (before : List Line) (line : Line) (old mid new : Drill) → MakeAll s clients before old mid → Makes s clients line mid new → MakeAll s clients (before ++ line ∷ []) old new
+last_made s clients [] line old mid new made is = (new, subst (λ (d : Drill). Makes s clients line d new) made is, refl)
+last_made s clients (first ∷ before) line old mid new made is = (made.0, made.1, last_made s clients before line made.0 mid new made.2 is)

@@ -8,6 +8,7 @@ use Rattle.nr_reduce.specs.declared.mark.Mark.{Mark}
 use Rattle.nr_reduce.specs.declared.mark.Mark.TheVariants as marks
 use Rattle.nr_reduce.specs.KeepsCalls.{AddsOneAtMost}
 use Rattle.nr_reduce.specs.NumberedJournal.{number_heard}
+use Rattle.nr_reduce.specs.Matched.{Matched}
 use Rattle.nr_laws.specs.MarkAt.{MarkAt}
 use Rattle.nr_laws.specs.OnceEach.{BegunLink, GoesOn, IsEarlier, IsLinkOf}
 use Rattle.nr_laws.proofs.EarlierLinks.{LinkKeeps, each_earlier, xid_below}
@@ -17,11 +18,11 @@ use Rattle.nr_script.specs.Script.{ScriptLines}
 use Rattle.nr_drill.specs.Lines.{IsDrillScript}
 use Rattle.nr_drill.specs.Drill.{SerialServer, Setting, IsLink, client_of, journal_of}
 use Rattle.nr_drill.specs.Follows.{Follows, last_setting}
-use Rattle.nr_drill.specs.Headline.{LinksAreMatched, PlacesRise}
+use Rattle.nr_drill.specs.Headline.{IsMatchedFromFirst, PlacesRise}
 use Rattle.nr_drill.specs.InBytes.{RepliedInBytes}
 use Rattle.nr_drill.proofs.BegunOrder.{le_or}
 use Rattle.nr_drill.proofs.EarlierOnes.{earlier_one}
-use Rattle.nr_drill.proofs.NumberedDrills.{order, wrote, outside, typed, far, opens_with, matched_with, one_each, journaled, heard_link, heard_client}
+use Rattle.nr_drill.proofs.NumberedDrills.{order, wrote, outside, typed, far, opens_with, matched_with, asked_so_far, older, one_each, journaled, heard_link, heard_client}
 
 not_below : (a b : ℕ) → nat_lt a b ≡ false → b ≤ a
 not_below a b e = by (le_or b a)
@@ -58,10 +59,10 @@ module _ (server : SerialServer) (script : ScriptLines) (run : List Mark) (is : 
       by (inr lt) = inr (one_of link other link_within within (sym one) (omega (arith, lt)))
 
   -- a call that is submitted for the first time on a link isn't executed on a link before it
-  not_before : (other executing : ℕ) → IsLink follows.last other → IsLink follows.last executing → client_of t other ≡ client_of t executing → LinksAreMatched t run other → LinksAreMatched t run executing →
+  not_before : (other executing : ℕ) → IsLink follows.last other → IsLink follows.last executing → client_of t other ≡ client_of t executing → Matched executing run →
       (before : List Mark) (xid : ℕ) (moment : Moment) (payload : List ℕ) (place : ℕ) (reply : List ℕ) → MarkAt run before (marks.Execute executing xid moment payload place reply) →
       (t.opened other).first_xid ≤ xid → executing < other → ⊥
-  not_before other executing within executing_within same matched executing_matched before xid moment payload place reply at first lt =
+  not_before other executing within executing_within same matched before xid moment payload place reply at first lt =
       past e.links e.goes_on
     where
       e : IsEarlier t.opened run executing other
@@ -76,9 +77,9 @@ module _ (server : SerialServer) (script : ScriptLines) (run : List Mark) (is : 
           let keeps = each_earlier t.opened run executing last (old ∷ links) (LinkKeeps t.opened run) g
           (λ earlier part h. (let there : IsEarlier t.opened run earlier.link other = record { began = e.began; links = part; goes_on = h } in record {
             opens = opens_with server script run is replied follows other within earlier.link there;
-            asked = (matched_with server script run is replied follows other within matched earlier.link there).asked;
+            asked = asked_so_far server script run is replied follows earlier.link (older server script run is replied follows earlier.link other within there).0;
           })) in
-          let near = far server script run is replied follows executing executing_within (executing_matched executing executing_within.0 refl) in
+          let near = far server script run is replied follows executing executing_within matched in
           let p = executes_have_plans (t.opened executing) executing run before xid moment payload place reply (typed server script run is replied follows) near at in
           let h = p.1 in
           let whole : run ≡ h.before ++ marks.Submit executing h.call h.form (submissions.Accepted xid) ∷ (h.at.after ++ marks.Execute executing xid moment payload place reply ∷ at.after) =
@@ -88,8 +89,8 @@ module _ (server : SerialServer) (script : ScriptLines) (run : List Mark) (is : 
           omega (arith, below, first)
 
   pub places_rise : AddsOneAtMost server.adds → (link other executing : ℕ) → IsLink follows.last link → IsLink follows.last other → IsLink follows.last executing → client_of t other ≡ client_of t executing →
-      LinksAreMatched t run link → LinksAreMatched t run other → LinksAreMatched t run executing → PlacesRise t link other executing run
-  places_rise few link other executing within other_within executing_within same matched other_matched executing_matched before between before_first before_second call form xid other_xid outcome moment other_moment payload other_payload place other_place reply other_reply
+      Matched link run → IsMatchedFromFirst t run executing → PlacesRise t link other executing run
+  places_rise few link other executing within other_within executing_within same matched executing_matched before between before_first before_second call form xid other_xid outcome moment other_moment payload other_payload place other_place reply other_reply
       done_then new first second =
       by (le_or other executing)
     where
@@ -97,9 +98,9 @@ module _ (server : SerialServer) (script : ScriptLines) (run : List Mark) (is : 
       start = not_below other_xid (t.opened other).first_xid new
 
       by : (other ≤ executing) ⊎ (executing < other) → place ≤ other_place
-      by (inr lt) = absurd (not_before other executing other_within executing_within same other_matched executing_matched before_second other_xid other_moment other_payload other_place other_reply second start lt)
+      by (inr lt) = absurd (not_before other executing other_within executing_within same (executing_matched executing executing_within.0 (omega arith) refl) before_second other_xid other_moment other_payload other_place other_reply second start lt)
       by (inl le) =
           places_follow_by_number server.reply_to server.adds t.opened link other executing (journal_of t run) run before between before_first before_second call form xid other_xid outcome moment other_moment payload other_payload place other_place
           reply other_reply (typed server script run is replied follows) (journaled server script run is replied follows) few (one_each server script run is replied follows) (is_link_of other executing other_within executing_within same)
-          (far server script run is replied follows link within (matched link within.0 refl)) (one_of other executing other_within executing_within same le) (opens_with server script run is replied follows executing executing_within)
+          (far server script run is replied follows link within matched) (one_of other executing other_within executing_within same le) (opens_with server script run is replied follows executing executing_within)
           (matched_with server script run is replied follows executing executing_within executing_matched) start done_then first second

@@ -26,7 +26,7 @@ use Rattle.nr_script.specs.Script.{ScriptLines}
 use Rattle.nr_drill.specs.Lines.{IsDrillScript}
 use Rattle.nr_drill.specs.Drill.{SerialServer, Setting, IsLink, plain_of}
 use Rattle.nr_drill.specs.Follows.{Follows, last_setting}
-use Rattle.nr_drill.specs.Headline.{LinksAreMatched}
+use Rattle.nr_drill.specs.Headline.{IsMatchedFromFirst}
 use Rattle.nr_drill.specs.InBytes.{RepliedInBytes}
 use Rattle.nr_drill.proofs.CarriedLinks.{follows_keeps}
 use Rattle.nr_drill.proofs.BegunOrder.{LinksInOrder, le_or}
@@ -44,12 +44,15 @@ module _ (server : SerialServer) (script : ScriptLines) (run : List Mark) (is : 
   abbrev clients : ℕ
   clients = script.opening.clients
 
-  agrees_within : (fuel link : ℕ) → link ≤ fuel → IsLink follows.last link → LinksAreMatched t run link → AgreesAgain (t.opened link)
+  agrees_within : (fuel link : ℕ) → link ≤ fuel → IsLink follows.last link → IsMatchedFromFirst t run link → AgreesAgain (t.opened link)
   agrees_within zero link le within matched = absurd (let low = within.0 in omega (arith, low, le))
-  agrees_within (suc fuel) link le within matched = by (le_or link clients) (λ more. agrees_within fuel (o.before link) (lower more) (o.older link within more).0 (λ other low same. matched other low (same ∙ (o.older link within more).2)))
+  agrees_within (suc fuel) link le within matched = by (le_or link clients) (λ more. agrees_within fuel (o.before link) (lower more) (o.older link within more).0 (λ other low at_most same. matched other low (not_above more other at_most) (same ∙ (o.older link within more).2)))
     where
       o : LinksInOrder t clients (length follows.last.opened) follows.last.last_links run
       o = order server script run is replied follows
+
+      not_above : clients < link → (other : ℕ) → other ≤ o.before link → other ≤ link
+      not_above more other at_most = (let lt = (o.older link within more).1 in omega (arith, lt, at_most))
 
       lower : clients < link → o.before link ≤ fuel
       lower more = (let lt = (o.older link within more).1 in omega (arith, lt, le))
@@ -59,13 +62,13 @@ module _ (server : SerialServer) (script : ScriptLines) (run : List Mark) (is : 
           let old = o.older link within more in
           let n = next_of t clients (length follows.last.opened) follows.last.last_links run o (wrote server script run is replied follows) (outside server script run is replied follows) link within more in
           reopened_links_agree (t.opened (o.before link)) (t.opened link) (o.before link) run (o.began link) n.reopened again (typed server script run is replied follows)
-          (far server script run is replied follows (o.before link) old.0 (matched (o.before link) old.0.0 old.2))
+          (far server script run is replied follows (o.before link) old.0 (matched (o.before link) old.0.0 (not_above more (o.before link) (omega arith)) old.2))
 
       by : (link ≤ clients) ⊎ (clients < link) → (clients < link → AgreesAgain (t.opened (o.before link))) → AgreesAgain (t.opened link)
       by (inl first) rest = agrees_first (t.opened link) (o.firsts link within first).2.agreed
       by (inr more) rest = next more (rest more)
 
-  agrees : (link : ℕ) → IsLink follows.last link → LinksAreMatched t run link → AgreesAgain (t.opened link)
+  agrees : (link : ℕ) → IsLink follows.last link → IsMatchedFromFirst t run link → AgreesAgain (t.opened link)
   agrees link within matched = agrees_within link link (omega arith) within matched
 
   -- no call of a client without a number is old
@@ -94,24 +97,24 @@ module _ (server : SerialServer) (script : ScriptLines) (run : List Mark) (is : 
 
   -- ===== neither side ends
 
-  kept : (link : ℕ) → IsLink follows.last link → LinksAreMatched t run link → KeepLaws (t.opened link) link run
+  kept : (link : ℕ) → IsLink follows.last link → IsMatchedFromFirst t run link → KeepLaws (t.opened link) link run
   kept link within matched =
       let laws = follows_keeps server script run is replied follows link within in
-      record { client = laws.asked.each; server = laws.served.each; matched = matched link within.0 refl; grant = laws.grant }
+      record { client = laws.asked.each; server = laws.served.each; matched = matched link within.0 (omega arith) refl; grant = laws.grant }
 
-  full : (link : ℕ) → IsLink follows.last link → LinksAreMatched t run link → InFull (t.opened link) link run
+  full : (link : ℕ) → IsLink follows.last link → IsMatchedFromFirst t run link → InFull (t.opened link) link run
   full link within matched =
       let laws = follows_keeps server script run is replied follows link within in
-      record { asked = laws.asked; served = laws.served; matched = matched link within.0 refl; grant = laws.grant }
+      record { asked = laws.asked; served = laws.served; matched = matched link within.0 (omega arith) refl; grant = laws.grant }
 
-  pub both_stay : KeepsReplyLimits (plain_of server) → KeepsCalls server.reply_to server.adds → (link : ℕ) → IsLink follows.last link → LinksAreMatched t run link → ((t.opened link).client.number ≢ 0 → HasNoOldCall link run) → HasNoRevoke link run →
+  pub both_stay : KeepsReplyLimits (plain_of server) → KeepsCalls server.reply_to server.adds → (link : ℕ) → IsLink follows.last link → IsMatchedFromFirst t run link → ((t.opened link).client.number ≢ 0 → HasNoOldCall link run) → HasNoRevoke link run →
       AreConveyedOrRefused (t.opened link) link run → (end_of_side (t.opened link) link Initiator run ≡ None) × (end_of_side (t.opened link) link Responder run ≡ None)
   both_stay plain keeps link within matched old kept_memory conveyed =
       links_stay server.reply_to server.adds (t.opened link) link run ((held server script run is replied follows).links link within).opened (agrees link within matched) (typed server script run is replied follows) (kept link within matched)
-      (none_old link within old) kept_memory conveyed plain (plainly server script run is replied follows keeps link within (λ some. matched))
+      (none_old link within old) kept_memory conveyed plain (plainly server script run is replied follows keeps link within matched)
 
-  pub have_completed : KeepsReplyLimits (plain_of server) → KeepsCalls server.reply_to server.adds → (link : ℕ) → IsLink follows.last link → LinksAreMatched t run link → ((t.opened link).client.number ≢ 0 → HasNoOldCall link run) → HasNoRevoke link run →
+  pub have_completed : KeepsReplyLimits (plain_of server) → KeepsCalls server.reply_to server.adds → (link : ℕ) → IsLink follows.last link → IsMatchedFromFirst t run link → ((t.opened link).client.number ≢ 0 → HasNoOldCall link run) → HasNoRevoke link run →
       AreConveyedOrRefused (t.opened link) link run → NothingInTransit (t.opened link) link run → HaveCompleted (t.opened link) link run
   have_completed plain keeps link within matched old kept_memory conveyed waits =
       matched_calls_complete server.reply_to server.adds (t.opened link) link run ((held server script run is replied follows).links link within).opened (agrees link within matched) (typed server script run is replied follows) (full link within matched)
-      (none_old link within old) kept_memory conveyed plain (plainly server script run is replied follows keeps link within (λ some. matched)) waits
+      (none_old link within old) kept_memory conveyed plain (plainly server script run is replied follows keeps link within matched) waits

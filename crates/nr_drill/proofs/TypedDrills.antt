@@ -147,14 +147,14 @@ CallIsTyped xid call form = IsBytes (call_payload xid call) × HasWordPosition f
 abbrev pub ResumedTyped : ResumedCall → Type 0
 ResumedTyped r = CallIsTyped r.xid r.call r.form
 
-abbrev WaitsTyped : WaitingCall → Type 0
+abbrev pub WaitsTyped : WaitingCall → Type 0
 WaitsTyped w = CallIsTyped w.xid w.call w.form
 
 first_typed : (stag : ℕ) (rs : List ResumedCall) → AllByRecursion ResumedTyped rs → AllByRecursion WaitsTyped (waiting_from stag rs)
 first_typed stag [] h = tt
 first_typed stag (r ∷ rs) h = (h.0, first_typed (stag + regions_needed r.plan) rs h.1)
 
-waits_typed : (o : LinkParameters) (link : ℕ) (run : List Mark) → AllByRecursion ResumedTyped o.resumed → AllByRecursion WaitsTyped (client o link run).state.waiting
+pub waits_typed : (o : LinkParameters) (link : ℕ) (run : List Mark) → AllByRecursion ResumedTyped o.resumed → AllByRecursion WaitsTyped (client o link run).state.waiting
 waits_typed o link run h = waits_on WaitsTyped o (λ w t. t) (first_typed o.first_stag o.resumed h) link run
 
 -- so is the first that can be sent again

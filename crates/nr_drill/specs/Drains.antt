@@ -1,26 +1,31 @@
 -- That a drain ends: each step that moves something leaves less work.
 use Rattle.std.specs.Prelude.{◌≡◌, ◌≢◌, ℕ, ◌-◌, ◌<◌, true, false, List, [], ◌++◌, length, Some}
+use Rattle.std.specs.List.{AllByRecursion}
 use Rattle.nr_xdr.specs.Item.{IsBytes}
 use Rattle.nr_wire.specs.declared.hello.Side.TheVariants.{Initiator, Responder}
 use Rattle.nr_link.specs.Frames.{frames_of}
 use Rattle.nr_reduce.specs.History.{bytes_sent, bytes_received, is_dropped}
 use Rattle.nr_reduce.specs.declared.mark.LinkParameters.{LinkParameters}
+use Rattle.nr_reduce.specs.KeepsCalls.{KeepsCalls}
 use Rattle.nr_reduce.specs.NumberedJournal.{entries_alone, number_heard}
 use Rattle.nr_reduce.specs.ServerState.{ReadyCall}
 use Rattle.nr_reduce.specs.Asked.{Asked}
 use Rattle.nr_reduce.specs.Served.{Served, next_call}
 use Rattle.nr_reduce.specs.Matched.{Matched}
 use Rattle.nr_laws.specs.Grant.{AcceptsByRule}
-use Rattle.nr_laws.specs.Typed.{IsTyped}
+use Rattle.nr_laws.specs.Typed.{IsTypedCall, IsTyped}
 use Rattle.nr_script.specs.declared.script.Line.{Line}
 use Rattle.nr_script.specs.Script.{ScriptLines}
 use Rattle.nr_drill.specs.Drill.{SerialServer, Setting, Drill, GivenReply, now, waiting_call, reply_given, journal_of, pipes_of, empty_pipes, setting_now}
 use Rattle.nr_drill.specs.Follows.{Drains, MakeAll, setting_of, opened_drill}
-use Rattle.nr_drill.specs.Lines.{IsClient, HasNoRaw, IsUnnumbered, IsDrillScript}
+use Rattle.nr_drill.specs.Lines.{IsClient, HasNoRaw, IsDrillScript}
 use Rattle.nr_drill.specs.InBytes.{ExecutedInBytes}
 use Rattle.nr_drill.specs.WorkLeft.{DrainStep, after_step, work_left, IsLess}
 use Rattle.nr_drill.specs.DrainSteps.{Moves}
-use Rattle.nr_reduce.specs.Opening.{IsOpened, IsFirstLink}
+use Rattle.nr_reduce.specs.Opening.{IsOpened}
+use Rattle.nr_reduce.specs.Plans.{HasWordPosition}
+use Rattle.nr_reduce.specs.ClientState.{call_payload}
+use Rattle.nr_reduce.specs.declared.mark.ResumedCall.{ResumedCall}
 
 -- The state of a link of a drill before and after each step: both sides keep their laws and have written what was due; what each received and
 -- what waits is what the other sent, until the link is dropped, and then nothing waits; each side has the hello of the other, and so the server the
@@ -57,13 +62,19 @@ AnswersInBytesAt s link d = (call : ReadyCall) (g : GivenReply) → waiting_call
 abbrev pub AnswersInBytes : Setting → Type 0
 AnswersInBytes s = (opened : ℕ → LinkParameters) (link : ℕ) (d : Drill) → IsTyped d.marks → ExecutedInBytes d.marks → AnswersInBytesAt (record s { opened = opened }) link d
 
--- What a step of a drain writes down on a link that runs is of its types, if a reply to a call that waits there is bytes.
+-- a call that is sent again is of its types
+abbrev pub IsTypedAgain : ResumedCall → Type 0
+IsTypedAgain r = IsBytes (call_payload r.xid r.call) × HasWordPosition r.form × IsTypedCall r.call
+
+-- What a step of a drain writes down on a link that runs, and was opened in range, is of its types, if what its client sends again is, and a reply to a
+-- call that waits there is bytes.
 abbrev pub StepsKeepTypes : Type 0
-StepsKeepTypes = (s : Setting) (link : ℕ) (step : DrainStep) (d : Drill) → IsFirstLink (s.opened link) → IsRunning s link d → AnswersInBytesAt s link d → IsTyped d.marks → IsTyped (after_step s link step d).marks
+StepsKeepTypes = (s : Setting) (link : ℕ) (step : DrainStep) (d : Drill) → IsOpened (s.opened link) → AllByRecursion IsTypedAgain (s.opened link).resumed → IsRunning s link d → AnswersInBytesAt s link d → IsTyped d.marks → IsTyped (after_step s link step d).marks
 
 -- After any of the first lines of a script, if none of these puts bytes into pipes, a drain ends: after a number of rounds nothing moves on any link.
+-- A server of clients that have numbers has to keep enough of each call, so that a call that is sent again has a reply.
 abbrev pub DrainsEnd : Type 0
-DrainsEnd = (server : SerialServer) (script : ScriptLines) → IsDrillScript script → IsUnnumbered script →
+DrainsEnd = (server : SerialServer) (script : ScriptLines) → IsDrillScript script → (script.opening.numbered ≡ true → KeepsCalls server.reply_to server.adds) →
     AnswersInBytes (setting_of server script.opening) → AnswersCalls (setting_of server script.opening) →
     (before after : List Line) → script.lines ≡ before ++ after → ((client : ℕ) → IsClient script client → HasNoRaw before client) → (mid : Drill) →
     MakeAll (setting_of server script.opening) script.opening.clients before (opened_drill server script.opening) mid →

@@ -1,6 +1,7 @@
 -- The marks that a script makes, in order.
-use Rattle.std.specs.Prelude.{Bool, true, false, ◌&&◌, if◌then◌else◌, is_none, None, ◌≡◌, ℕ, zero, suc, ◌+◌, List, [], ◌∷◌}
+use Rattle.std.specs.Prelude.{Bool, true, false, ◌&&◌, if◌then◌else◌, is_none, None, ◌≡◌, ℕ, zero, suc, ◌+◌, List, [], ◌∷◌, ◌++◌}
 use Rattle.std.specs.List.{list_all}
+use Rattle.nr_wire.specs.declared.hello.Side.{Side}
 use Rattle.nr_link.specs.Agreement.{terms_with}
 use Rattle.nr_link.specs.declared.agreement.SideTerms.{SideTerms}
 use Rattle.nr_reduce.specs.declared.mark.LinkParameters.{LinkParameters}
@@ -81,6 +82,20 @@ pub record Follows (server : SerialServer) (script : ScriptLines) (run : List Ma
   pub last : Drill
   pub makes : MakeAll (setting_of server script.opening) script.opening.clients script.lines (opened_drill server script.opening) last
   pub marks_are : run ≡ last.marks
+
+-- A `raw` line of the script puts bytes into the pipes of a link: after the lines before it, the link is the last one of the client that it names, and
+-- isn't dropped.
+pub record HasRawLine (server : SerialServer) (script : ScriptLines) (link : ℕ) : Type 0 where
+  pub before : List Line
+  pub after : List Line
+  pub client : ℕ
+  pub side : Side
+  pub bytes : List ℕ
+  pub is_cut : script.lines ≡ before ++ lines.Raw client side bytes ∷ after
+  pub old : Drill
+  pub made : MakeAll (setting_of server script.opening) script.opening.clients before (opened_drill server script.opening) old
+  pub is_last : last_link client old ≡ link
+  pub stands : is_dropped link old.marks ≡ false
 
 -- what the links of the run were opened with
 abbrev pub last_setting : {server : SerialServer} {script : ScriptLines} {run : List Mark} → Follows server script run → Setting

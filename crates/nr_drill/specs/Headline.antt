@@ -37,7 +37,7 @@ use Rattle.nr_drill.specs.declared.report.Report.{Report}
 use Rattle.nr_drill.specs.declared.report.LinkLog.{LinkLog}
 use Rattle.nr_script.specs.Script.{ScriptLines}
 use Rattle.nr_drill.specs.Drill.{SerialServer, Setting, IsLink, plain_of, client_of, is_sent_again, journal_of}
-use Rattle.nr_drill.specs.Follows.{Follows, last_setting}
+use Rattle.nr_drill.specs.Follows.{Follows, HasRawLine, last_setting}
 use Rattle.nr_drill.specs.Lines.{HasNoRaw, EndsWithDrain}
 use Rattle.nr_drill.specs.Memory.{KeepsMemory}
 use Rattle.nr_drill.specs.DrainSteps.{DrainStepsLeaveLess}
@@ -46,15 +46,16 @@ use Rattle.nr_drill.specs.Reports.{call_reports, link_reports}
 -- ===== one link
 
 -- Whatever the script, hostile bytes too: both ends keep their laws in full; each call is accepted by the client's rule, so within the grant;
--- each outcome that is due has been handed over; and if no line puts bytes into the pipes of its client's links, each side receives what the other
--- sent.
-pub record KeepsLaws (script : ScriptLines) (opened : LinkParameters) (client link : ℕ) (run : List Mark) : Type 0 where
+-- each outcome that is due has been handed over; and if no line puts bytes into the pipes of its client's links, or none into its own, each side
+-- receives what the other sent.
+pub record KeepsLaws (server : SerialServer) (script : ScriptLines) (opened : LinkParameters) (client link : ℕ) (run : List Mark) : Type 0 where
   pub asked : Asked opened link run
   pub served : Served opened link run
   pub accepts : AcceptsByRule opened link run
   pub grant : KeepsGrant opened link run
   pub handed : outcomes_due opened link run ≡ []
   pub matched : HasNoRaw script.lines client → Matched link run
+  pub matched_alone : (HasRawLine server script link → ⊥) → Matched link run
 
 -- A call that completes: with the plain server's reply at its place in the one journal; else with Chunk, if its message is refused or its
 -- offer doesn't hold the reply; never with another version.
@@ -80,9 +81,9 @@ pub record Stays (script : ScriptLines) (opened : LinkParameters) (client link :
 
 -- ===== the run
 
--- each link of the client of this one is matched
-abbrev pub LinksAreMatched : Setting → List Mark → ℕ → Type 0
-LinksAreMatched s run link = (other : ℕ) → 1 ≤ other → client_of s other ≡ client_of s link → Matched other run
+-- A link is matched, and so is each link that its client had before.
+abbrev pub IsMatchedFromFirst : Setting → List Mark → ℕ → Type 0
+IsMatchedFromFirst s run link = (earlier : ℕ) → 1 ≤ earlier → earlier ≤ link → client_of s earlier ≡ client_of s link → Matched earlier run
 
 -- A call is submitted on a link for the first time, after the outcome of another was handed over. Its place isn't smaller, on whichever of its
 -- client's links it is executed.
@@ -105,25 +106,24 @@ ChangesHaveEntries server T opened link run = (before : List Mark) (xid : ℕ) (
 
 -- What is promised of the run of a drill. `last_setting follows` says what its links were opened with: the first link of each client as the first
 -- line of the script says, and a later one as it was reopened from the one before. A link is matched if no line puts bytes into its pipes (`laws`); it
--- may be if one does, as after it was dropped.
+-- may be if one does, as when these bytes are never fed.
 pub record IsDrillRun (server : SerialServer) (script : ScriptLines) (run : List Mark) : Type 0 where
   pub follows : Follows server script run
   pub typed : IsTyped run
   pub journaled : JournaledByNumber (plain_of server) (number_heard run) (journal_of (last_setting follows) run) run
   pub numbers : (link : ℕ) → IsLink follows.last link → number_heard run link ≡ ((last_setting follows).opened link).client.number
-  pub laws : (link : ℕ) → IsLink follows.last link → KeepsLaws script ((last_setting follows).opened link) (client_of (last_setting follows) link) link run
+  pub laws : (link : ℕ) → IsLink follows.last link → KeepsLaws server script ((last_setting follows).opened link) (client_of (last_setting follows) link) link run
   pub memory : (link : ℕ) → IsLink follows.last link → KeepsMemory ((last_setting follows).opened link) link run
-  pub outcomes : (link : ℕ) → IsLink follows.last link → LinksAreMatched (last_setting follows) run link →
+  pub outcomes : (link : ℕ) → IsLink follows.last link → IsMatchedFromFirst (last_setting follows) run link →
       Completes (plain_of server) (entries_alone (journal_of (last_setting follows) run)) ((last_setting follows).opened link) link run
-  pub changes : (link : ℕ) → IsLink follows.last link → (((last_setting follows).opened link).client.number ≢ 0 → LinksAreMatched (last_setting follows) run link) →
-      AnswersChanges server ((last_setting follows).opened link) link run
+  pub changes : (link : ℕ) → IsLink follows.last link → AnswersChanges server ((last_setting follows).opened link) link run
   pub places : (link other_link executing : ℕ) → IsLink follows.last link → IsLink follows.last other_link → IsLink follows.last executing →
-      client_of (last_setting follows) other_link ≡ client_of (last_setting follows) executing → LinksAreMatched (last_setting follows) run link →
-      LinksAreMatched (last_setting follows) run other_link → LinksAreMatched (last_setting follows) run executing → PlacesRise (last_setting follows) link other_link executing run
+      client_of (last_setting follows) other_link ≡ client_of (last_setting follows) executing → Matched link run → IsMatchedFromFirst (last_setting follows) run executing →
+      PlacesRise (last_setting follows) link other_link executing run
   pub once : HasNoEntryTwice (journal_of (last_setting follows) run)
-  pub entries : (link : ℕ) → IsLink follows.last link → ((last_setting follows).opened link).client.number ≢ 0 → LinksAreMatched (last_setting follows) run link →
+  pub entries : (link : ℕ) → IsLink follows.last link → ((last_setting follows).opened link).client.number ≢ 0 → IsMatchedFromFirst (last_setting follows) run link →
       ChangesHaveEntries server (journal_of (last_setting follows) run) (last_setting follows).opened link run
-  pub staying : (link : ℕ) → IsLink follows.last link → LinksAreMatched (last_setting follows) run link → is_dropped link run ≡ false → HasNoRevoke link run →
+  pub staying : (link : ℕ) → IsLink follows.last link → IsMatchedFromFirst (last_setting follows) run link → is_dropped link run ≡ false → HasNoRevoke link run →
       AreConveyedOrRefused ((last_setting follows).opened link) link run → Stays script ((last_setting follows).opened link) (client_of (last_setting follows) link) link run
   pub drains : (link : ℕ) → IsLink follows.last link → DrainStepsLeaveLess server script link
 

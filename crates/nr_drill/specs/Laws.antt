@@ -12,7 +12,7 @@ use Rattle.nr_drill.specs.Drill.{SerialServer, Setting, Drill, setting_now}
 use Rattle.nr_drill.specs.Follows.{Drains, MakeAll, Follows, setting_of, last_setting, opened_drill}
 use Rattle.nr_drill.specs.Drains.{AnswersCalls, AnswersInBytes}
 use Rattle.nr_drill.specs.Headline.{IsDrillRun, Reports}
-use Rattle.nr_drill.specs.Lines.{IsClient, HasNoRaw, IsUnnumbered, IsDrillScript}
+use Rattle.nr_drill.specs.Lines.{IsClient, HasNoRaw, IsDrillScript}
 use Rattle.nr_byte_laws.specs.InBytes.{IsInBytes}
 use Rattle.nr_drill.specs.InBytes.{RepliedInBytes}
 use Rattle.nr_drill.specs.DrillSetup.{drill_setup, server_of}
@@ -48,19 +48,19 @@ PlainRunsReplyInBytes = (tree : Tree) (script : ScriptLines) (run : List Mark) �
 
 -- Over a tree in bytes a drain ends after any of the first lines of a script, if none of these puts bytes into pipes.
 abbrev pub PlainDrainsEnd : Type 0
-PlainDrainsEnd = (tree : Tree) (script : ScriptLines) → IsInBytes tree → IsDrillScript script → IsUnnumbered script →
+PlainDrainsEnd = (tree : Tree) (script : ScriptLines) → IsInBytes tree → IsDrillScript script →
     (before after : List Line) → script.lines ≡ before ++ after → ((client : ℕ) → IsClient script client → HasNoRaw before client) → (mid : Drill) →
     MakeAll (setting_of (server_of (drill_setup tree script.opening)) script.opening) script.opening.clients before (opened_drill (server_of (drill_setup tree script.opening)) script.opening) mid →
     (rounds : ℕ) × (new : Drill) × Drains (setting_now (setting_of (server_of (drill_setup tree script.opening)) script.opening) mid) mid.last_links rounds mid new
 
 -- so such a script has a run
 abbrev pub ScriptsHaveRuns : Type 0
-ScriptsHaveRuns = (tree : Tree) (script : ScriptLines) → IsInBytes tree → IsDrillScript script → IsUnnumbered script → ((client : ℕ) → IsClient script client → HasNoRaw script.lines client) →
+ScriptsHaveRuns = (tree : Tree) (script : ScriptLines) → IsInBytes tree → IsDrillScript script → ((client : ℕ) → IsClient script client → HasNoRaw script.lines client) →
     (run : List Mark) × Follows (server_of (drill_setup tree script.opening)) script run
 
 -- and over the first tree of a drill it has one, which is that of a drill
 abbrev pub DrillsHaveRuns : Type 0
-DrillsHaveRuns = (tree : Tree) (script : ScriptLines) → IsDrill tree → IsDrillScript script → IsUnnumbered script → ((client : ℕ) → IsClient script client → HasNoRaw script.lines client) →
+DrillsHaveRuns = (tree : Tree) (script : ScriptLines) → IsDrill tree → IsDrillScript script → ((client : ℕ) → IsClient script client → HasNoRaw script.lines client) →
     (run : List Mark) × IsDrillRun (server_of (drill_setup tree script.opening)) script run
 
 -- what is printed of a run, and its sums, by its report

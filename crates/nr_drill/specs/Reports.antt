@@ -49,7 +49,7 @@ submitted_state (submissions.Accepted xid) = states.Open xid
 submitted_state (submissions.Refused why) = states.Refused why
 submitted_state submissions.Dropped = states.Dropped
 
--- whether a call line is that of a call that is open under this xid on this link
+-- whether a call line is that of a call that is open under this xid
 abbrev pub is_open_as : ℕ → CallState → Bool
 is_open_as xid (states.Open x) = x == xid
 is_open_as xid (states.Done place outcome) = false
@@ -60,7 +60,7 @@ is_open_as xid (states.Refused why) = false
 is_open_as xid states.Dropped = false
 
 abbrev pub becomes : ℕ → ℕ → CallState → CallReport → CallReport
-becomes link xid state r = if r.client == link && is_open_as xid r.state then record r { state = state } else r
+becomes client xid state r = if r.client == client && is_open_as xid r.state then record r { state = state } else r
 
 -- The reports with a call line more, or with what a mark says of an open call. A later mark changes nothing.
 abbrev pub number_of : ℕ → List CallReport → ℕ
