@@ -95,7 +95,7 @@ module _ (server : SerialServer) (script : ScriptLines) (run : List Mark) (is : 
       by part (marks.Told l (told.Old xid at)) rest cut = λ same.
           (let at_mark : MarkAt run part (marks.Told link (told.Old xid at)) = record { after = rest; is = cut ∙ ap (λ (k : ℕ). part ++ marks.Told k (told.Old xid at) ∷ rest) same } in
           let left = no_call_is_old server.reply_to server.adds t.opened (client_of t link) link (journal_of t run) run part xid at (typed server script run is replied follows) (journaled server script run is replied follows) few
-          (one_each server script run is replied follows) (first_of link within some) (opens_with server script run is replied follows link within) (matched_with server script run is replied follows link within matched)
+          (λ other numbered again. one_each server script run is replied follows link other numbered (sym again)) (first_of link within some) (opens_with server script run is replied follows link within) (matched_with server script run is replied follows link within matched)
           (accepts_with link within) ((held server script run is replied follows).links link within).terms.terms.2 at_mark in
           left_dropped link part (marks.Told l (told.Old xid at) ∷ rest) cut within left standing)
       by part (marks.Told l (told.Granted credits)) rest cut = tt

@@ -162,7 +162,7 @@ module _ (server : SerialServer) (script : ScriptLines) (run : List Mark) (is : 
 
   pub at_places : KeepsCalls server.reply_to server.adds → (link : ℕ) → IsLink follows.last link → IsMatchedFromFirst t run link → AtPlacesOn (plain_of server) (entries_alone T) link run
   at_places keeps link within matched =
-      links_are_at_places_until_left server.reply_to server.adds t.opened link T run typed journaled keeps one_each (opens_with link within) (matched_with link within matched)
+      links_are_at_places_until_left server.reply_to server.adds t.opened link T run typed journaled keeps (λ other numbered same. one_each link other numbered (sym same)) (opens_with link within) (matched_with link within matched)
       (executes_until_left t clients links follows.last.last_links run order wrote outside marks_within link)
 
   pub plainly : KeepsCalls server.reply_to server.adds → (link : ℕ) → IsLink follows.last link → IsMatchedFromFirst t run link → HasPlainReplies (plain_of server) link run
@@ -196,5 +196,5 @@ module _ (server : SerialServer) (script : ScriptLines) (run : List Mark) (is : 
 
   pub entries : KeepsCalls server.reply_to server.adds → (link : ℕ) → IsLink follows.last link → (t.opened link).client.number ≢ 0 → IsMatchedFromFirst t run link → ChangesHaveEntries server T t.opened link run
   entries keeps link within numbered matched before xid call form moment payload reply asked at conveyed adds =
-      completed_changes_have_entries server.reply_to server.adds t.opened link T run before xid call form moment payload reply typed journaled keeps one_each (opens_with link within) (matched_with link within matched)
+      completed_changes_have_entries server.reply_to server.adds t.opened link T run before xid call form moment payload reply typed journaled keeps (λ other numbered same. one_each link other numbered (sym same)) (opens_with link within) (matched_with link within matched)
       numbered (held.links link within).terms.terms.2 asked at conveyed adds

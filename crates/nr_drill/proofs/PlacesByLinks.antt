@@ -22,7 +22,7 @@ use Rattle.nr_drill.specs.Headline.{IsMatchedFromFirst, PlacesRise}
 use Rattle.nr_drill.specs.InBytes.{RepliedInBytes}
 use Rattle.nr_drill.proofs.BegunOrder.{le_or}
 use Rattle.nr_drill.proofs.EarlierOnes.{earlier_one}
-use Rattle.nr_drill.proofs.NumberedDrills.{order, wrote, outside, typed, far, opens_with, matched_with, asked_so_far, older, one_each, journaled, heard_link, heard_client}
+use Rattle.nr_drill.proofs.NumberedDrills.{order, wrote, outside, typed, far, opens_with, matched_with, asked_so_far, older, journaled, heard_link, heard_client}
 
 not_below : (a b : ℕ) → nat_lt a b ≡ false → b ≤ a
 not_below a b e = by (le_or b a)
@@ -101,6 +101,6 @@ module _ (server : SerialServer) (script : ScriptLines) (run : List Mark) (is : 
       by (inr lt) = absurd (not_before other executing other_within executing_within same (executing_matched executing executing_within.0 (omega arith) refl) before_second other_xid other_moment other_payload other_place other_reply second start lt)
       by (inl le) =
           places_follow_by_number server.reply_to server.adds t.opened link other executing (journal_of t run) run before between before_first before_second call form xid other_xid outcome moment other_moment payload other_payload place other_place
-          reply other_reply (typed server script run is replied follows) (journaled server script run is replied follows) few (one_each server script run is replied follows) (is_link_of other executing other_within executing_within same)
+          reply other_reply (typed server script run is replied follows) (journaled server script run is replied follows) few (is_link_of executing executing executing_within executing_within refl) (is_link_of other executing other_within executing_within same)
           (far server script run is replied follows link within matched) (one_of other executing other_within executing_within same le) (opens_with server script run is replied follows executing executing_within)
           (matched_with server script run is replied follows executing executing_within executing_matched) start done_then first second

@@ -90,7 +90,7 @@ impl Endpoint {
         self.link.post(buf);
     }
 
-    /// Ends the side for what the layer above made of a message: `Bad` at the last complete frame, with one Terminate queued; or `Memory`, if
+    /// Ends the side for what the layer above made of a message or of a call: `Bad` at the last complete frame, with one Terminate queued; or `Memory`, if
     /// memory ran out for it.
     pub fn stop(&mut self, reason: u32) -> End
         requires live { self.old.link.state.ended ≡ None }

@@ -33,7 +33,7 @@ use Rattle.nr_reduce.proofs.Calls.{executed_head}
 use Rattle.nr_reduce.proofs.Steps.{AtEachMark_first}
 use Rattle.nr_laws.specs.MarkAt.{MarkAt}
 use Rattle.nr_laws.specs.MatchedSoFar.{MatchedSoFar}
-use Rattle.nr_laws.specs.OnceEach.{BegunLink, GoesOn, IsEarlier, MatchedWithEarlier, OpenedWithEarlier, OneClientEach, HasEntry, IsAskedFor, CompletedChangesHaveEntries, ChangesTakeEffectOnce}
+use Rattle.nr_laws.specs.OnceEach.{BegunLink, GoesOn, IsEarlier, MatchedWithEarlier, OpenedWithEarlier, IsLinkOf, HasEntry, IsAskedFor, CompletedChangesHaveEntries, ChangesTakeEffectOnce}
 use Rattle.nr_laws.specs.Payloads.{HasPlan, form_conveyed}
 use Rattle.nr_laws.specs.PlainLinks.{server_with}
 use Rattle.nr_laws.specs.Typed.{TypedMark, IsTyped}
@@ -100,7 +100,7 @@ record Handed (link : ℕ) (run before : List Mark) (xid : ℕ) (call : Call) (f
   submitted : run ≡ earlier ++ marks.Submit link call form (submissions.Accepted xid) ∷ later
 
 module _ (reply_to : List Entry → Moment → List ℕ → Option (List ℕ)) (adds : Moment → List ℕ → List ℕ → List Entry) (opened : ℕ → LinkParameters) (link : ℕ) (T : List TaggedEntry) (run : List Mark) (typed : IsTyped run)
-    (journaled : JournaledByNumber (server_with reply_to adds) (number_heard run) T run) (keeps : KeepsCalls reply_to adds) (clients : OneClientEach opened run) (opens : OpenedWithEarlier opened run link) (matched : MatchedWithEarlier opened run link)
+    (journaled : JournaledByNumber (server_with reply_to adds) (number_heard run) T run) (keeps : KeepsCalls reply_to adds) (clients : IsLinkOf opened run (number_heard run link) link) (opens : OpenedWithEarlier opened run link) (matched : MatchedWithEarlier opened run link)
     (heard : number_heard run link ≢ 0) where
   abbrev number : ℕ → ℕ
   number = number_heard run
@@ -267,7 +267,7 @@ module _ (reply_to : List Entry → Moment → List ℕ → Option (List ℕ)) (
   same_payloads before xid call form payload reply done conveyed h other same front mid moment bytes place answer there =
       let earliest : Mark = marks.Execute other xid moment bytes place answer in
       let execute : Mark = marks.Execute link xid h.moment payload h.place reply in
-      let earlier = earlier_of before xid call form payload reply done other (clients link other heard (sym same)) front mid moment bytes place answer h there in
+      let earlier = earlier_of before xid call form payload reply done other (clients other heard same) front mid moment bytes place answer h there in
       let in_run : run ≡ front ++ earliest ∷ (mid ++ execute ∷ h.after) = h.is ∙ ap (λ (r : List Mark). r ++ execute ∷ h.after) there ∙ append_assoc front (earliest ∷ mid) (execute ∷ h.after) in
       earlier_payload before xid call form payload reply h conveyed other earlier front (mid ++ execute ∷ h.after) moment bytes place answer in_run
 
@@ -328,9 +328,9 @@ completed_changes_have_entries reply_to adds opened link T run before xid call f
 -- ---- Each change once
 
 pub changes_take_effect_once : ChangesTakeEffectOnce
-changes_take_effect_once reply_to adds opened T run typed journaled keeps clients = record {
+changes_take_effect_once reply_to adds opened T run typed journaled keeps = record {
   once = λ place other t u here there.
       no_entry_twice reply_to adds (number_heard run) run keeps.one place other t u (ap (λ (U : List TaggedEntry). slice_get U place) journaled.is ∙ here) (ap (λ (U : List TaggedEntry). slice_get U other) journaled.is ∙ there);
-  completed = λ link before xid call form moment payload reply opens matched some fits asked done conveyed more.
+  completed = λ link before xid call form moment payload reply clients opens matched some fits asked done conveyed more.
       completed_changes_have_entries reply_to adds opened link T run before xid call form moment payload reply typed journaled keeps clients opens matched some fits asked done conveyed more;
 }

@@ -14,7 +14,7 @@ use Rattle.nr_reduce.specs.declared.mark.Mark.TheVariants as marks
 use Rattle.nr_reduce.specs.declared.mark.TaggedEntry.{TaggedEntry}
 use Rattle.nr_reduce.specs.AtEachMark.{AtEachMark}
 use Rattle.nr_reduce.specs.Events.{events}
-use Rattle.nr_reduce.specs.KeepsCalls.{AddsOneAtMost}
+use Rattle.nr_reduce.specs.KeepsCalls.{AddsOneAtMost, FitsChanges}
 use Rattle.nr_reduce.specs.KeepsReplyLimits.{KeepsReplyLimits}
 use Rattle.nr_reduce.specs.Limits.{send_unit}
 use Rattle.nr_reduce.specs.Matched.{IsPrefixOf}
@@ -28,7 +28,7 @@ use Rattle.nr_reduce.proofs.Calls.{execute_answered}
 use Rattle.nr_reduce.proofs.OwnLimits.{server_limits_of}
 use Rattle.nr_laws.specs.ChunkOutcomes.{answer_held, IsAnswered}
 use Rattle.nr_laws.specs.MarkAt.{MarkAt}
-use Rattle.nr_laws.specs.OnceEach.{FitsChanges, NumberedChangesAreAnswered}
+use Rattle.nr_laws.specs.OnceEach.{NumberedChangesAreAnswered}
 use Rattle.nr_laws.specs.PlainLinks.{server_with}
 use Rattle.nr_laws.specs.Typed.{TypedMark}
 use Rattle.nr_laws.proofs.AnsweredChanges.{some_of}

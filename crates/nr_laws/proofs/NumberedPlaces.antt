@@ -23,7 +23,7 @@ use Rattle.nr_reduce.specs.Served.{ServedMark, IsExecuted}
 use Rattle.nr_reduce.proofs.Calls.{executed_head}
 use Rattle.nr_laws.specs.MarkAt.{MarkAt}
 use Rattle.nr_laws.specs.MatchedSoFar.{MatchedSoFar}
-use Rattle.nr_laws.specs.OnceEach.{BegunLink, IsEarlier, MatchedWithEarlier, OpenedWithEarlier, OneClientEach, ClientIsMatched, NumberedLinksAreAtPlaces}
+use Rattle.nr_laws.specs.OnceEach.{BegunLink, IsEarlier, MatchedWithEarlier, OpenedWithEarlier, IsLinkOf, ClientIsMatched, NumberedLinksAreAtPlaces}
 use Rattle.nr_laws.specs.Payloads.{HasPlan, form_conveyed}
 use Rattle.nr_laws.specs.PlainLinks.{AtPlacesOn, server_with, AtPlaceOnMark}
 use Rattle.nr_laws.specs.Typed.{TypedMark, IsTyped}
@@ -209,7 +209,7 @@ links_at_places reply_to adds opened link T run typed journaled keeps matched sa
 
 -- ---- All links of the client are matched
 
-module _ (opened : ℕ → LinkParameters) (link : ℕ) (run : List Mark) (typed : IsTyped run) (clients : OneClientEach opened run) (matched : number_heard run link ≢ 0 → ClientIsMatched opened run (number_heard run link)) where
+module _ (opened : ℕ → LinkParameters) (link : ℕ) (run : List Mark) (typed : IsTyped run) (clients : IsLinkOf opened run (number_heard run link) link) (matched : number_heard run link ≢ 0 → ClientIsMatched opened run (number_heard run link)) where
   itself : (other : ℕ) → IsEarlier opened run other other
   itself other = record { began = []; links = []; goes_on = refl }
 
@@ -226,7 +226,7 @@ module _ (opened : ℕ → LinkParameters) (link : ℕ) (run : List Mark) (typed
       let its = matched some other same in
       let x = executed_of (opened other) other run front (mid ++ execute ∷ after) xid now bytes at answer typed (its.1 other (itself other)) in_run in
       let y = executed_of (opened link) link run before after xid moment payload place reply typed (far some) is in
-      by xid bytes payload other x y mine its (clients link other some (sym same))
+      by xid bytes payload other x y mine its (clients other some same)
     where
       by : (n : ℕ) (bytes payload : List ℕ) (other : ℕ) → ExecutedOf other run n bytes → ExecutedOf link run n payload → OpenedWithEarlier opened run link × MatchedWithEarlier opened run link → OpenedWithEarlier opened run other × MatchedWithEarlier opened run other
           → IsEarlier opened run link other ⊎ IsEarlier opened run other link → bytes ≡ payload

@@ -434,7 +434,7 @@ module _ (opened : ℕ → LinkParameters) (link : ℕ) (run before after : List
 pub no_call_is_old : NoCallIsOld
 unfolding tagged_journal
 no_call_is_old reply_to adds opened first link T run before xid at typed journaled few clients begins opens matched accepts fits told_at =
-    by (clients link a.link some (sym same_client))
+    by (clients a.link some same_client)
   where
     number : ℕ → ℕ
     number = number_heard run

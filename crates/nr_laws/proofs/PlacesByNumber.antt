@@ -20,7 +20,7 @@ use Rattle.nr_reduce.specs.NumberedJournal.{Standing, standing_for, tagged_journ
 use Rattle.nr_reduce.specs.NumberedJournal.Standing.{Old, Kept, New}
 use Rattle.nr_laws.specs.MarkAt.{MarkAt}
 use Rattle.nr_laws.specs.MatchedSoFar.{MatchedSoFar}
-use Rattle.nr_laws.specs.OnceEach.{BegunLink, GoesOn, IsEarlier, MatchedWithEarlier, OpenedWithEarlier, OneClientEach, IsLinkOf, PlacesFollowByNumber}
+use Rattle.nr_laws.specs.OnceEach.{BegunLink, GoesOn, IsEarlier, MatchedWithEarlier, OpenedWithEarlier, IsLinkOf, PlacesFollowByNumber}
 use Rattle.nr_laws.specs.PlainLinks.{server_with}
 use Rattle.nr_laws.specs.Typed.{IsTyped}
 use Rattle.nr_laws.proofs.EarlierLinks.{InFirst, AfterFirst, mark_in_first, event_at_mark, submit_event, execute_event, none_is, submitted_in_time, LinkKeeps, xid_below, each_earlier, LeftBy, left_by}
@@ -168,7 +168,7 @@ module _ (reply_to : List Entry → Moment → List ℕ → Option (List ℕ)) (
 -- ---- The call that was submitted later
 
 module _ (reply_to : List Entry → Moment → List ℕ → Option (List ℕ)) (adds : Moment → List ℕ → List ℕ → List Entry) (opened : ℕ → LinkParameters) (run : List Mark) (typed : IsTyped run) (each : AtEachMark (NumberedMark (server_with reply_to adds) (number_heard run)) [] run)
-    (few : AddsOneAtMost adds) (clients : OneClientEach opened run) (other executing : ℕ) (one : IsLinkOf opened run (number_heard run executing) other) (e : IsEarlier opened run other executing) (opens : OpenedWithEarlier opened run executing) (matched : MatchedWithEarlier opened run executing)
+    (few : AddsOneAtMost adds) (other executing : ℕ) (clients : IsLinkOf opened run (number_heard run executing) executing) (one : IsLinkOf opened run (number_heard run executing) other) (e : IsEarlier opened run other executing) (opens : OpenedWithEarlier opened run executing) (matched : MatchedWithEarlier opened run executing)
     (front back : List Mark) (call : Call) (form : Form) (xid : ℕ) (first : (opened other).first_xid ≤ xid) (here : run ≡ front ++ marks.Submit other call form (submissions.Accepted xid) ∷ back)
     (then after : List Mark) (moment : Moment) (payload : List ℕ) (place : ℕ) (reply : List ℕ) (is : run ≡ then ++ marks.Execute executing xid moment payload place reply ∷ after) where
   abbrev number : ℕ → ℕ
@@ -233,7 +233,7 @@ module _ (reply_to : List Entry → Moment → List ℕ → Option (List ℕ)) (
       let earliest : Mark = marks.Execute a.link xid a.moment a.payload a.at a.reply in
       let there : then ≡ a.before ++ earliest ∷ a.after = a.is ∙ ap (λ (x : ℕ). a.before ++ marks.Execute a.link x a.moment a.payload a.at a.reply ∷ a.after) same_xid in
       let in_run : run ≡ a.before ++ earliest ∷ (a.after ++ execute ∷ after) = is ∙ ap (λ (r : List Mark). r ++ execute ∷ after) there ∙ append_assoc a.before (earliest ∷ a.after) (execute ∷ after) in
-      let follows = by a.link some same_client a.before (a.after ++ execute ∷ after) a.moment a.payload a.at a.reply in_run (clients executing a.link some (sym same_client)) in
+      let follows = by a.link some same_client a.before (a.after ++ execute ∷ after) a.moment a.payload a.at a.reply in_run (clients a.link some same_client) in
       let longer = rises reply_to adds number front a.before follows in
       let place_is = a.place_is in
       omega (arith, longer, place_is)
@@ -265,5 +265,5 @@ places_follow_by_number reply_to adds opened link other executing T run before b
     } in
     let one_place = place_within reply_to adds (number_heard run) run before_first h.after link xid moment payload place reply journaled.each h.is in
     let longer = rises reply_to adds (number_heard run) before_first front follows in
-    let two_place = place_after reply_to adds opened run typed journaled.each few clients other executing one e opens matched front submit.after call form yid first submit.is before_second g.after now bytes later answer g.is in
+    let two_place = place_after reply_to adds opened run typed journaled.each few other executing clients one e opens matched front submit.after call form yid first submit.is before_second g.after now bytes later answer g.is in
     omega (arith, one_place, longer, two_place)

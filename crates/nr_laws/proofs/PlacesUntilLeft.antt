@@ -9,13 +9,13 @@ use Rattle.nr_reduce.specs.declared.mark.Mark.TheVariants as marks
 use Rattle.nr_reduce.specs.Events.{events}
 use Rattle.nr_reduce.specs.NumberedJournal.{number_heard}
 use Rattle.nr_laws.specs.MatchedSoFar.{MatchedSoFar}
-use Rattle.nr_laws.specs.OnceEach.{IsEarlier, MatchedWithEarlier, OpenedWithEarlier, OneClientEach, IsLeft, ExecutesUntilLeft, LinksAreAtPlacesUntilLeft}
+use Rattle.nr_laws.specs.OnceEach.{IsEarlier, MatchedWithEarlier, OpenedWithEarlier, IsLinkOf, IsLeft, ExecutesUntilLeft, LinksAreAtPlacesUntilLeft}
 use Rattle.nr_laws.specs.Typed.{IsTyped}
 use Rattle.nr_laws.proofs.KeptEntries.{HaveSamePayload}
 use Rattle.nr_laws.proofs.NumberedPlaces.{ExecutedOf, executed_of, same_payload, links_at_places}
 use Rattle.nr_laws.proofs.OldCalls.{executed_some}
 
-module _ (opened : ℕ → LinkParameters) (link : ℕ) (run : List Mark) (typed : IsTyped run) (clients : OneClientEach opened run) (opens : OpenedWithEarlier opened run link) (matched : MatchedWithEarlier opened run link)
+module _ (opened : ℕ → LinkParameters) (link : ℕ) (run : List Mark) (typed : IsTyped run) (clients : IsLinkOf opened run (number_heard run link) link) (opens : OpenedWithEarlier opened run link) (matched : MatchedWithEarlier opened run link)
     (until : ExecutesUntilLeft opened run link) where
   itself : IsEarlier opened run link link
   itself = record { began = []; links = []; goes_on = refl }
@@ -25,7 +25,7 @@ module _ (opened : ℕ → LinkParameters) (link : ℕ) (run : List Mark) (typed
 
   same_payloads : number_heard run link ≢ 0 → (before after : List Mark) (xid : ℕ) (moment : Moment) (payload : List ℕ) (place : ℕ) (reply : List ℕ) → run ≡ before ++ marks.Execute link xid moment payload place reply ∷ after
       → HaveSamePayload (number_heard run) before (number_heard run link) xid payload
-  same_payloads some before after xid moment payload place reply is other same front mid now bytes at answer there = by (clients link other some (sym same))
+  same_payloads some before after xid moment payload place reply is other same front mid now bytes at answer there = by (clients other some same)
     where
       execute : Mark
       execute = marks.Execute link xid moment payload place reply

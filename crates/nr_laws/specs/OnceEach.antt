@@ -1,10 +1,7 @@
 -- Each change once: over any number of links of a numbered client, whatever was dropped and begun again, its calls take effect at most once, and
 -- exactly once if they complete with a reply that adds an entry.
-use Rattle.std.specs.Prelude.{◌≡◌, ◌≢◌, ℕ, ◌^◌, ◌<◌, ◌≤◌, List, [], ◌∷◌, ◌++◌, slice_get, Option, None, Some, ◌⊎◌}
+use Rattle.std.specs.Prelude.{◌≡◌, ◌≢◌, ℕ, ◌^◌, ◌<◌, ◌≤◌, List, [], ◌∷◌, ◌++◌, slice_get, Option, Some, ◌⊎◌}
 use Rattle.nr_outside.specs.declared.moment.Moment.{Moment}
-use Rattle.nr_rpc.specs.Reading.{call_of, target_of}
-use Rattle.nr_header.specs.WithinLimits.{ListsWithin}
-use Rattle.nr_header.specs.declared.header.ChunkLists.{ChunkLists}
 use Rattle.nr_wire.specs.declared.hello.Side.TheVariants.{Initiator, Responder}
 use Rattle.nr_reduce.specs.declared.call.Call.{Call}
 use Rattle.nr_reduce.specs.declared.call.Form.{Form}
@@ -19,16 +16,14 @@ use Rattle.nr_reduce.specs.PlainJournal.{PlainServer}
 use Rattle.nr_reduce.specs.ClientState.{call_payload}
 use Rattle.nr_reduce.specs.Asked.{AskedSoFar}
 use Rattle.nr_reduce.specs.Events.{events}
-use Rattle.nr_reduce.specs.KeepsCalls.{AddsOneAtMost, KeepsCalls}
+use Rattle.nr_reduce.specs.KeepsCalls.{AddsOneAtMost, FitsChanges, KeepsCalls}
 use Rattle.nr_reduce.specs.KeepsReplyLimits.{KeepsReplyLimits}
-use Rattle.nr_reduce.specs.Limits.{send_unit}
 use Rattle.nr_reduce.specs.Opening.{IsOpened, IsFirstLink}
 use Rattle.nr_reduce.specs.declared.mark.TaggedEntry.{TaggedEntry}
 use Rattle.nr_reduce.specs.declared.mark.Told.TheVariants.{Old}
-use Rattle.nr_reduce.specs.NumberedJournal.{tagged_journal, number_heard, entries_alone, call_of_entry, JournaledByNumber, IsReplyOf}
+use Rattle.nr_reduce.specs.NumberedJournal.{tagged_journal, number_heard, entries_alone, HasNoEntryTwice, JournaledByNumber, IsReplyOf}
 use Rattle.nr_reduce.specs.Reopening.{IsReopened}
 use Rattle.nr_reduce.specs.Served.{ServedSoFar}
-use Rattle.nr_reduce.specs.Server.{answer_of_target}
 use Rattle.nr_laws.specs.ChunkOutcomes.{IsAnswered}
 use Rattle.nr_laws.specs.Grant.{AcceptsByRule}
 use Rattle.nr_laws.specs.MarkAt.{MarkAt}
@@ -82,7 +77,8 @@ AskedWithEarlier opened run link = (earlier : ℕ) → IsEarlier opened run earl
 abbrev pub ClientIsMatched : (ℕ → LinkParameters) → List Mark → (number : ℕ) → Type 0
 ClientIsMatched opened run number = (link : ℕ) → number_heard run link ≡ number → OpenedWithEarlier opened run link × MatchedWithEarlier opened run link
 
--- One number names one client: of two links whose servers heard the same number, one goes on from the other.
+-- One number names one client: of two links whose servers heard the same number, one goes on from the other. Then each link is one of its client's
+-- (`IsLinkOf`), which is all that the laws ask, of the link at hand.
 abbrev pub OneClientEach : (ℕ → LinkParameters) → List Mark → Type 0
 OneClientEach opened run = (link other : ℕ) → number_heard run link ≢ 0 → number_heard run link ≡ number_heard run other →
     IsEarlier opened run link other ⊎ IsEarlier opened run other link
@@ -117,9 +113,7 @@ IsLinkOf opened run number link = (other : ℕ) → number ≢ 0 → number_hear
 -- No two entries are of one call of a numbered client: whatever the clients sent.
 abbrev pub NoEntryTwice : Type 0
 NoEntryTwice = (reply_to : List Entry → Moment → List ℕ → Option (List ℕ)) (adds : Moment → List ℕ → List ℕ → List Entry) (number : ℕ → ℕ) (run : List Mark) →
-    AddsOneAtMost adds → (place other : ℕ) (t u : TaggedEntry) →
-    slice_get (tagged_journal (server_with reply_to adds) number run) place ≡ Some t → slice_get (tagged_journal (server_with reply_to adds) number run) other ≡ Some u →
-    t.client ≢ 0 → t.client ≡ u.client → t.xid ≡ u.xid → place ≡ other
+    AddsOneAtMost adds → HasNoEntryTwice (tagged_journal (server_with reply_to adds) number run)
 
 -- A call has an entry under its client and its xid: what its form conveys of its own call adds just that entry, and the reply is the one of that
 -- entry.
@@ -150,7 +144,7 @@ abbrev pub CompletedChangesHaveEntries : Type 0
 CompletedChangesHaveEntries = (reply_to : List Entry → Moment → List ℕ → Option (List ℕ)) (adds : Moment → List ℕ → List ℕ → List Entry)
     (opened : ℕ → LinkParameters) (link : ℕ) (T : List TaggedEntry) (run before : List Mark) (xid : ℕ) (call : Call) (form : Form) (moment : Moment) (payload reply : List ℕ) →
     IsTyped run → JournaledByNumber (server_with reply_to adds) (number_heard run) T run → KeepsCalls reply_to adds →
-    OneClientEach opened run → OpenedWithEarlier opened run link → MatchedWithEarlier opened run link → (opened link).client.number ≢ 0 → (opened link).client.number < 2 ^ 64 →
+    IsLinkOf opened run (number_heard run link) link → OpenedWithEarlier opened run link → MatchedWithEarlier opened run link → (opened link).client.number ≢ 0 → (opened link).client.number < 2 ^ 64 →
     IsAskedFor opened link run xid call form →
     MarkAt run before (marks.Done link xid (outcomes.Reply reply)) → form_conveyed form (call_payload xid call) ≡ Some payload → adds moment payload reply ≢ [] →
     HasEntry (server_with reply_to adds) T (opened link).client.number xid payload reply
@@ -160,7 +154,7 @@ CompletedChangesHaveEntries = (reply_to : List Entry → Moment → List ℕ →
 abbrev pub NumberedLinksAreAtPlaces : Type 0
 NumberedLinksAreAtPlaces = (reply_to : List Entry → Moment → List ℕ → Option (List ℕ)) (adds : Moment → List ℕ → List ℕ → List Entry)
     (opened : ℕ → LinkParameters) (link : ℕ) (T : List TaggedEntry) (run : List Mark) →
-    IsTyped run → JournaledByNumber (server_with reply_to adds) (number_heard run) T run → KeepsCalls reply_to adds → OneClientEach opened run →
+    IsTyped run → JournaledByNumber (server_with reply_to adds) (number_heard run) T run → KeepsCalls reply_to adds → IsLinkOf opened run (number_heard run link) link →
     (number_heard run link ≢ 0 → ClientIsMatched opened run (number_heard run link)) → AtPlacesOn (server_with reply_to adds) (entries_alone T) link run
 
 -- The same of a link that is matched with its earlier ones, whatever comes on the later ones, if its server executes no call once its client has
@@ -168,7 +162,7 @@ NumberedLinksAreAtPlaces = (reply_to : List Entry → Moment → List ℕ → Op
 abbrev pub LinksAreAtPlacesUntilLeft : Type 0
 LinksAreAtPlacesUntilLeft = (reply_to : List Entry → Moment → List ℕ → Option (List ℕ)) (adds : Moment → List ℕ → List ℕ → List Entry)
     (opened : ℕ → LinkParameters) (link : ℕ) (T : List TaggedEntry) (run : List Mark) →
-    IsTyped run → JournaledByNumber (server_with reply_to adds) (number_heard run) T run → KeepsCalls reply_to adds → OneClientEach opened run →
+    IsTyped run → JournaledByNumber (server_with reply_to adds) (number_heard run) T run → KeepsCalls reply_to adds → IsLinkOf opened run (number_heard run link) link →
     OpenedWithEarlier opened run link → MatchedWithEarlier opened run link → ExecutesUntilLeft opened run link → AtPlacesOn (server_with reply_to adds) (entries_alone T) link run
 
 -- On matched links a call is submitted for the first time after the outcome of another was handed over. If both are executed, the call on whichever
@@ -178,7 +172,8 @@ PlacesFollowByNumber = (reply_to : List Entry → Moment → List ℕ → Option
     (opened : ℕ → LinkParameters) (link other executing : ℕ) (T : List TaggedEntry) (run before between before_first before_second : List Mark)
     (call : Call) (form : Form) (xid other_xid : ℕ) (outcome : Outcome)
     (moment other_moment : Moment) (payload other_payload : List ℕ) (place other_place : ℕ) (reply other_reply : List ℕ) →
-    IsTyped run → JournaledByNumber (server_with reply_to adds) (number_heard run) T run → AddsOneAtMost adds → OneClientEach opened run → IsLinkOf opened run (number_heard run executing) other →
+    IsTyped run → JournaledByNumber (server_with reply_to adds) (number_heard run) T run → AddsOneAtMost adds →
+    IsLinkOf opened run (number_heard run executing) executing → IsLinkOf opened run (number_heard run executing) other →
     MatchedSoFar (opened link) link run → IsEarlier opened run other executing → OpenedWithEarlier opened run executing → MatchedWithEarlier opened run executing →
     (opened other).first_xid ≤ other_xid →
     MarkAt run (before ++ marks.Done link xid outcome ∷ between) (marks.Submit other call form (submissions.Accepted other_xid)) →
@@ -196,16 +191,9 @@ NoOutcomeTwice = (opened : ℕ → LinkParameters) (link other : ℕ) (run befor
 abbrev pub NoCallIsOld : Type 0
 NoCallIsOld = (reply_to : List Entry → Moment → List ℕ → Option (List ℕ)) (adds : Moment → List ℕ → List ℕ → List Entry)
     (opened : ℕ → LinkParameters) (first link : ℕ) (T : List TaggedEntry) (run before : List Mark) (xid at : ℕ) →
-    IsTyped run → JournaledByNumber (server_with reply_to adds) (number_heard run) T run → AddsOneAtMost adds → OneClientEach opened run →
+    IsTyped run → JournaledByNumber (server_with reply_to adds) (number_heard run) T run → AddsOneAtMost adds → IsLinkOf opened run (number_heard run link) link →
     IsFirstOf opened run (number_heard run link) first → OpenedWithEarlier opened run link → MatchedWithEarlier opened run link → AcceptsWithEarlier opened run link →
     (opened link).client.number < 2 ^ 64 → MarkAt run before (marks.Told link (Old xid at)) → IsLeft opened run link before
-
--- The reply to the call of an entry can be sent back to each call that would add an entry by it, whatever that one offers within the limits of a
--- header: also to another call, if a client sends that under the xid of the entry.
-abbrev pub FitsChanges : PlainServer → Type 0
-FitsChanges plain = (J : List Entry) (m n o : Moment) (payload asked answer reply : List ℕ) (xid : ℕ) (e : Entry) (offer : ChunkLists) (down : ℕ) →
-    plain.adds o asked answer ≡ e ∷ [] → plain.Replies J m (call_of_entry xid e) reply → plain.adds n payload reply ≢ [] → ListsWithin offer → send_unit ≤ down →
-    answer_of_target offer down reply (target_of (call_of payload)) ≢ None
 
 -- On every link, whatever its client sends, the reply to each executed call that adds an entry goes out, also the one that such a call has kept.
 abbrev pub NumberedChangesAreAnswered : Type 0
@@ -219,15 +207,15 @@ NumberedChangesAreAnswered = (reply_to : List Entry → Moment → List ℕ → 
 -- What is so of the changes of the clients with numbers, over all their links: no two entries are of one call, and a reply that is handed over on
 -- matched links, and that adds an entry, has its one entry. So each change takes effect once at most, and once if its reply came.
 pub record EachChangeOnce (plain : PlainServer) (T : List TaggedEntry) (opened : ℕ → LinkParameters) (run : List Mark) : Type 0 where
-  pub once : (place other : ℕ) (t u : TaggedEntry) → slice_get T place ≡ Some t → slice_get T other ≡ Some u → t.client ≢ 0 → t.client ≡ u.client → t.xid ≡ u.xid → place ≡ other
+  pub once : HasNoEntryTwice T
   pub completed : (link : ℕ) (before : List Mark) (xid : ℕ) (call : Call) (form : Form) (moment : Moment) (payload reply : List ℕ) →
-      OpenedWithEarlier opened run link → MatchedWithEarlier opened run link → (opened link).client.number ≢ 0 → (opened link).client.number < 2 ^ 64 →
+      IsLinkOf opened run (number_heard run link) link → OpenedWithEarlier opened run link → MatchedWithEarlier opened run link → (opened link).client.number ≢ 0 → (opened link).client.number < 2 ^ 64 →
       IsAskedFor opened link run xid call form → MarkAt run before (marks.Done link xid (outcomes.Reply reply)) →
       form_conveyed form (call_payload xid call) ≡ Some payload → plain.adds moment payload reply ≢ [] →
       HasEntry plain T (opened link).client.number xid payload reply
 
--- Its premises: the server keeps calls, and one number names one client.
+-- Its premise: the server keeps calls.
 abbrev pub ChangesTakeEffectOnce : Type 0
 ChangesTakeEffectOnce = (reply_to : List Entry → Moment → List ℕ → Option (List ℕ)) (adds : Moment → List ℕ → List ℕ → List Entry)
     (opened : ℕ → LinkParameters) (T : List TaggedEntry) (run : List Mark) → IsTyped run → JournaledByNumber (server_with reply_to adds) (number_heard run) T run →
-    KeepsCalls reply_to adds → OneClientEach opened run → EachChangeOnce (server_with reply_to adds) T opened run
+    KeepsCalls reply_to adds → EachChangeOnce (server_with reply_to adds) T opened run

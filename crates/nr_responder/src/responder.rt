@@ -290,9 +290,9 @@ impl Responder {
         self.end.client()
     }
 
-    /// Ends the side for reason 28, since the next call is old when its turn to be executed comes: its client has a number, and has had a later call
-    /// executed that many calls ago that its reply may not be kept. It ends at the last complete frame of the client's stream, and a
-    /// Terminate with the reason is queued; or `End::Memory`: memory ran out for that. Answers which. The call is neither executed nor answered.
+    /// Ends the side for reason 28: the next call is old, its xid being 64 or more below the largest one of its client's changes. Whether it is so
+    /// is for the owner to know. It ends at the last complete frame of the client's stream, and a Terminate with the reason is queued; or
+    /// `End::Memory`: memory ran out for that. Answers which. The call is neither executed nor answered.
     pub fn stop(&mut self, reason: u32) -> End
         requires live { end_of self.old.side ≡ None }
         requires next { self.old.side.ready ≢ [] }
