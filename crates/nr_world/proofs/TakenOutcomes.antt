@@ -5,9 +5,9 @@ use Rattle.nr_requester.specs.declared.answer.AnsweredCall.{AnsweredCall}
 use Rattle.nr_requester.specs.declared.taking.Done.{Done}
 use Rattle.nr_requester.specs.RequesterState.{RequesterSide}
 use Rattle.nr_requester.specs.OpenCalls.{found_answer}
-use Rattle.nr_requester.specs.declared.taking.Take.TheVariants as takes
 use Rattle.nr_requester.specs.Takes.{IsTaken, TakeStands}
 use Rattle.nr_world.specs.private.HandsOver.{TakesOutcome}
+use Rattle.nr_requester.specs.declared.taking.Take.TheVariants as takes
 
 pub took : (before after : RequesterSide) (xid : ℕ) (done : Done) → IsTaken before xid (takes.Done done) after → TakeStands before xid (takes.Done done) after → TakesOutcome before xid done.outcome after
 took before after xid done t s = record { call = done.call; buffers = done.buffers; came = t.0; state = t.1.1; stands = s.0 }

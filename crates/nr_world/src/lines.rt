@@ -14,14 +14,17 @@ use nr_xdr::Memory;
 use std::alloc::Global;
 
 impl World {
-    /// Rounds, as long as something moves.
+    /// Rounds, as long as something moves. Each makes a mark.
     fn drain(&mut self) -> Result<(), Memory>
         requires { CanMake lines.Drain self.old }
         ensures { OnOk result (MakesLine lines.Drain self.old self.new) }
     {
         while !self.is_still() {
+            let before = self.marks.len();
             self.round()?;
-            self.marks.facts();
+            if self.marks.len() <= before {
+                return Err(Memory);
+            }
         }
         Ok(())
     }
@@ -65,11 +68,7 @@ impl World {
             Line::Forget { client, number } => self.forget(*client as usize, *number),
             Line::Revoke { client, number } => self.revoke(*client as usize, *number),
             Line::Drop { client } => self.drop_link(*client as usize),
-            // Clients have no numbers, so none begins another link.
-            Line::Rejoin { client } => {
-                let _ = client;
-                Ok(())
-            }
+            Line::Rejoin { client } => self.rejoin(*client as usize),
             Line::Grant { client, credits } => self.grant(*client as usize, *credits),
             Line::Raw {
                 client,
