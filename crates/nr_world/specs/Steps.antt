@@ -12,6 +12,7 @@ use Rattle.nr_reduce.specs.Opening.{ClientOpened, IsOpened, ServerOpened}
 use Rattle.nr_reduce.specs.OutcomesDue.{outcomes_due}
 use Rattle.nr_laws.specs.Typed.{IsTyped}
 use Rattle.nr_reduce.specs.Reopening.{reopened}
+use Rattle.nr_reduce.specs.Run.{client}
 use Rattle.nr_reduce.specs.declared.mark.Mark.{Mark}
 use Rattle.nr_reduce.specs.declared.mark.LinkParameters.{LinkParameters}
 use Rattle.nr_reduce.specs.declared.mark.TaggedEntry.{TaggedEntry}
@@ -89,9 +90,11 @@ Opens link opening v run run' =
 
 -- ---- A client leaves its link and begins the next one
 
--- It may leave its link: it has a number, the link and the next one are in range, the marks are typed, the client kept its law, and no outcome is due.
+-- It may leave its link: it has a number and hasn't ended, the link and the next one are in range, the marks are typed, the client kept its law, and no
+-- outcome is due.
 pub record MayLeave (opened : LinkParameters) (link : ℕ) (run : List Mark) : Type 0 where
   pub numbered : opened.client.number ≢ 0
+  pub stays : (client opened link run).ended ≡ None
   pub typed : IsTyped run
   pub opens : IsOpened opened
   pub opens_next : IsOpened (reopened opened link run)
