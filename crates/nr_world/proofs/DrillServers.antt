@@ -59,7 +59,7 @@ second_is_now setup T New seconds now moment payload place reply same h new = ap
 abbrev IsFew : ℕ → List TaggedEntry → Type 0
 IsFew now es = (es ≡ []) ⊎ ((t : TaggedEntry) × (es ≡ t ∷ []) × (t.entry.moment ≡ at_second now))
 
-tagged_entry : (client xid : ℕ) (e : Entry) (b : Bool) → (cond b (record { entry = e; client = 0; xid = 0 }) (record { entry = e; client = client; xid = xid })).entry ≡ e
+tagged_entry : (client xid : ℕ) (e : Entry) (b : Bool) → (cond {A = TaggedEntry} b (record { entry = e; client = 0; xid = 0 }) (record { entry = e; client = client; xid = xid })).entry ≡ e
 tagged_entry client xid e true = refl
 tagged_entry client xid e false = refl
 
