@@ -15,16 +15,17 @@ use Rattle.nr_top_laws.specs.Logs.{MadeLogs, ReadLogs}
 pub read_logs : (O C : Type 0) → ReadLogs O C
 read_logs O C status before after ends is =
     let d = (ends.0.done is).0 in
-    let given : ReadsScript before.input after.input d.ran.script = d.ran.given in
-    (record {
-      script = d.ran.script;
-      tree = d.ran.tree;
-      run = d.ran.run;
-      given = given;
-      drill = d.ran.drill;
-      prints = d.prints;
-    },
-    λ none. read_back (server_of (drill_setup d.ran.tree d.ran.script.opening)) d.ran.script d.ran.run (inl (given.text, given.whole.within, given.reads)) none d.ran.drill.keeps)
+    let given : ReadsScript before.input after.input d.ran.script = d.ran.given in (
+      record {
+        script = d.ran.script;
+        tree = d.ran.tree;
+        run = d.ran.run;
+        given = given;
+        drill = d.ran.drill;
+        prints = d.prints;
+      },
+      λ none. read_back (server_of (drill_setup d.ran.tree d.ran.script.opening)) d.ran.script d.ran.run (inl (given.text, given.whole.within, given.reads)) none d.ran.drill.keeps,
+    )
 
 -- the ranges of a command that a line can ask for
 ranges : (seed clients calls : ℕ) → is_command (commands.GeneratedDrill seed clients calls true) ≡ true → (1 ≤ clients) × (clients ≤ clients_max) × (calls ≤ calls_max)
@@ -39,13 +40,14 @@ made_logs O C seed clients calls status before after possible ends is =
     let d = (ends.0.done is).0 in
     let given : d.ran.script ≡ made_script seed clients calls = d.ran.given.1 in
     let within = ranges seed clients calls possible in
-    let none : d.ran.script.opening.numbered ≡ false = ap (λ (script : ScriptLines). script.opening.numbered) given ∙ made_unnumbered seed clients calls in
-    (record {
-      script = d.ran.script;
-      tree = d.ran.tree;
-      run = d.ran.run;
-      given = given;
-      drill = d.ran.drill;
-      prints = d.prints;
-    },
-    read_back (server_of (drill_setup d.ran.tree d.ran.script.opening)) d.ran.script d.ran.run (inr (seed, clients, calls, within.0, within.1, within.2, given)) none d.ran.drill.keeps)
+    let none : d.ran.script.opening.numbered ≡ false = ap (λ (script : ScriptLines). script.opening.numbered) given ∙ made_unnumbered seed clients calls in (
+      record {
+        script = d.ran.script;
+        tree = d.ran.tree;
+        run = d.ran.run;
+        given = given;
+        drill = d.ran.drill;
+        prints = d.prints;
+      },
+      read_back (server_of (drill_setup d.ran.tree d.ran.script.opening)) d.ran.script d.ran.run (inr (seed, clients, calls, within.0, within.1, within.2, given)) none d.ran.drill.keeps,
+    )

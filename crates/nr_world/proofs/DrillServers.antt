@@ -74,8 +74,11 @@ few_added client now payload reply New = by (few (at_second now) payload reply)
     by : (entries_of_call (at_second now) payload reply ≡ []) ⊎ AddsOne (at_second now) payload reply → IsFew now (entries_added client (at_second now) payload reply)
     by (inl none) = inl (ap (λ (es : List Entry). map (tagged client x) es) none)
     by (inr (e, one)) =
-        inr (tagged client x e, ap (λ (es : List Entry). map (tagged client x) es) one,
-        ap (λ (a : Entry). a.moment) (tagged_entry client x e (client == 0)) ∙ moment_is (at_second now) payload reply e one)
+        inr (
+          tagged client x e,
+          ap (λ (es : List Entry). map (tagged client x) es) one,
+          ap (λ (a : Entry). a.moment) (tagged_entry client x e (client == 0)) ∙ moment_is (at_second now) payload reply e one,
+        )
 
 -- ---- The seconds of the entries, once the journal grew
 

@@ -153,6 +153,7 @@ tracks_accepted s link run call form xid lines awaited calls waiting new none du
       same_ids = map-append (λ (c : AcceptedCall). c.xid) calls (a ∷ []) ∙ ap (λ (ns : List ℕ). ns ++ xid ∷ []) t.same_ids ∙ sym (map-append (λ (l : AwaitedLine). l.xid) awaited (line ∷ []));
       none_before = λ x above. elsewhere_on s link x run mark (own_elsewhere s link x mark refl) (t.none_before x above);
     }
+
 -- ---- A call that is sent again
 
 -- the same calls are due
