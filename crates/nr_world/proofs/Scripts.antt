@@ -151,7 +151,6 @@ may_leave s opening n c link d within last numbered stays h =
     let begun = begins_so s opening n c link d within last numbered stays h in
     record {
       numbered = k.terms.numbered numbered;
-      stays = stays;
       typed = h.typed.typed;
       opens = k.opened;
       opens_next = subst IsOpened begun.new_link next.opened;
