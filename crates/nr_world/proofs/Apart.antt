@@ -1,5 +1,5 @@
 -- Marks of other links leave a link.
-use Rattle.std.specs.Prelude.{◌-◌, ◌||◌, if◌then◌else◌, ◌&&◌}
+use Rattle.std.specs.Prelude.{◌-◌, ◌||◌, ◌==◌, if◌then◌else◌, ◌&&◌}
 use Rattle.std.specs.List.{AllByRecursion, list_any}
 use Rattle.std.proofs.Common.{◌≡◌, ◌≢◌, ℕ, ◌≤◌, arith, eqb, Bool, false, List, [], ◌∷◌, ◌++◌, length, refl, ap, sym, subst, ◌∙◌, append_assoc, append-nil, not}
 use Rattle.nr_world.proofs.CallLines.{SettlesNothing, tracks_on}

@@ -3,7 +3,7 @@ use Rattle.std.specs.Prelude.{◌&&◌, is_some, IfOk}
 use Rattle.std.specs.List.{AllByRecursion}
 use Rattle.std.proofs.Common.{◌≡◌, ◌≢◌, ℕ, ◌+◌, ◌≤◌, arith, ltb, Bool, true, false, List, [], ◌∷◌, ◌++◌, length, Option, None, Some, Result, Ok, Err, refl, ap, sym, subst, ◌∙◌, ltb-true, map, not, eqb, nat_lt, eqb-true, cond}
 use Rattle.nr_link.specs.declared.end.End.{End}
-use Rattle.nr_world.proofs.SubmittedCalls.{tracks_refused}
+use Rattle.nr_world.proofs.SubmittedCalls.{tracks_refused, tracks_accepted}
 use Rattle.nr_wire.specs.declared.hello.Side.TheVariants.{Initiator}
 use Rattle.nr_reduce.specs.declared.call.Call.{Call}
 use Rattle.nr_reduce.specs.declared.call.Form.{Form}

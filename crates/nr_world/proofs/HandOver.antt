@@ -24,6 +24,7 @@ use Rattle.nr_world.specs.DrillLinkState.{AwaitedLine}
 use Rattle.nr_world.specs.private.HandsOver.{HaveNoOutcome}
 use Rattle.nr_world.proofs.WaitingAnswers.{CallsApart, waits_unanswered}
 use Rattle.nr_world.specs.LinkStands.{StandsForClient, call_ids, due_calls, line_ids, link_calls, waiting_calls}
+use Rattle.nr_drill.proofs.Lawful.{here}
 use Rattle.nr_world.proofs.Requesters.{due_first, kept_outcomes}
 use Rattle.nr_world.proofs.SettledCalls.{ids_filtered}
 use Rattle.std.proofs.lemmas.List.Elements.{Contains-append_right}
