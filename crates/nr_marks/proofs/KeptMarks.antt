@@ -104,12 +104,6 @@ count_of stores ks waiting now same =
     let few : length (option_to_list waiting) ≤ 1 = at_most_one waiting in
     omega (arith, len, kept, few)
 
-pub all_of : (stores : List (List ℕ)) (ks : List Kept) (waiting : Option Mark) (now : List Mark) → marks_of stores ks ++ option_to_list waiting ≡ now → length now ≡ length ks + length (option_to_list waiting)
-all_of stores ks waiting now same =
-    let len : length now ≡ length (marks_of stores ks) + length (option_to_list waiting) = ap (λ (ms : List Mark). length ms) (sym same) ∙ length-append (marks_of stores ks) (option_to_list waiting) in
-    let kept : length (marks_of stores ks) ≡ length ks = length-map ks (mark_of stores) in
-    omega (arith, len, kept)
-
 -- ===== how many bytes are kept
 
 -- a mark is added after the stores grew by no more than it has

@@ -174,16 +174,6 @@ impl MarkLog {
         let _count = self.entries.len();
     }
 
-    /// How many marks there are.
-    pub fn len(&self) -> usize
-        ensures { result ≡ length self.now }
-    {
-        match &self.waiting {
-            Some(_) => self.entries.len() + 1,
-            None => self.entries.len(),
-        }
-    }
-
     /// How many bytes are kept in memory for the marks: no more than they have, where the arguments of a call line count with the 40 bytes
     /// of the call head that stands before them.
     pub fn held(&self) -> u128
