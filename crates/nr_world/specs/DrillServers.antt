@@ -1,6 +1,6 @@
 -- What contracts see of the plain server of a drill, and what it makes of a call.
 use Rattle.std.specs.Prelude.{◌≡◌, refl, ℕ, ◌≤◌, Bool, true, false, List, [], ◌∷◌, ◌++◌, length, map, All}
-use Rattle.std.specs.Coded.{Coded, code_by, coded_ℕ, coded_list}
+use Rattle.std.specs.Coded.{Coded, code_by, coded_ℕ, coded_list, coded×}
 use Rattle.nr_xdr.specs.Item.{IsBytes}
 use Rattle.nr_outside.specs.declared.moment.Moment.{Moment}
 use Rattle.nr_reduce.specs.declared.mark.TaggedEntry.{TaggedEntry}
