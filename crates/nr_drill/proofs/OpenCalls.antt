@@ -536,7 +536,7 @@ same_answers : (s t : Setting) (client : ℕ) (run : List Mark) → SameOn s t r
 same_answers s t client [] is = refl
 same_answers s t client (mark ∷ run) is = λ i. same_answer s t client mark is.0 i ++ same_answers s t client run is.1 i
 
-same_settled : (s t : Setting) (client xid : ℕ) (run : List Mark) → SameOn s t run → list_any (settles t client xid) run ≡ list_any (settles s client xid) run
+pub same_settled : (s t : Setting) (client xid : ℕ) (run : List Mark) → SameOn s t run → list_any (settles t client xid) run ≡ list_any (settles s client xid) run
 same_settled s t client xid [] is = refl
 same_settled s t client xid (mark ∷ run) is = λ i. same_settles s t client xid mark is.0 i || same_settled s t client xid run is.1 i
 

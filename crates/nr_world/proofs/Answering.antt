@@ -62,7 +62,7 @@ answers_with v h server run run2 call number payload e sent is stands same live 
       marks_are = more ∙ ap (λ (n : ℕ). run ++ marks.Execute v.number n (at_second e.second) payload e.place e.reply ∷ []) own;
     })
 
-bad_at : End → ℕ
+abbrev bad_at : End → ℕ
 bad_at (ends.Bad at reason) = at
 bad_at end = 0
 

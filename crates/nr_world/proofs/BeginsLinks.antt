@@ -236,7 +236,6 @@ begins_link c w n v v2 number e is count a begins tree opening d h may =
 
     x : Extends next begun new
     x = opening_adds u next begun
-
     leaves = opening_leaves u next begun
 
     same : u ≡ setting_now s new

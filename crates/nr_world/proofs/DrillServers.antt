@@ -63,7 +63,7 @@ second_is_now setup T New seconds now moment payload place reply same h new = ap
 abbrev IsFew : ℕ → List TaggedEntry → Type 0
 IsFew now es = (es ≡ []) ⊎ ((t : TaggedEntry) × (es ≡ t ∷ []) × (t.entry.moment ≡ at_second now))
 
-tagged_entry : (client xid : ℕ) (e : Entry) (b : Bool) → (cond b (record { entry = e; client = 0; xid = 0 }) (record { entry = e; client = client; xid = xid })).entry ≡ e
+tagged_entry : (client xid : ℕ) (e : Entry) (b : Bool) → (cond {A = TaggedEntry} b (record { entry = e; client = 0; xid = 0 }) (record { entry = e; client = client; xid = xid })).entry ≡ e
 tagged_entry client xid e true = refl
 tagged_entry client xid e false = refl
 
@@ -78,8 +78,11 @@ few_added client now payload reply New = by (few (at_second now) payload reply)
     by : (entries_of_call (at_second now) payload reply ≡ []) ⊎ AddsOne (at_second now) payload reply → IsFew now (entries_added client (at_second now) payload reply)
     by (inl none) = inl (ap (λ (es : List Entry). map (tagged client x) es) none)
     by (inr (e, one)) =
-        inr (tagged client x e, ap (λ (es : List Entry). map (tagged client x) es) one,
-        ap (λ (a : Entry). a.moment) (tagged_entry client x e (client == 0)) ∙ moment_is (at_second now) payload reply e one)
+        inr (
+          tagged client x e,
+          ap (λ (es : List Entry). map (tagged client x) es) one,
+          ap (λ (a : Entry). a.moment) (tagged_entry client x e (client == 0)) ∙ moment_is (at_second now) payload reply e one,
+        )
 
 -- ---- The seconds of the entries, once the journal grew
 

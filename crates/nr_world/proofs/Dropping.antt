@@ -28,7 +28,7 @@ drops v run run2 more s link d at =
     record {
       stands = record {
         number = h.number;
-              first = h.first;
+        first = h.first;
         room = subst (λ (n : ℕ). link ≤ n) (sym (length-set d.pipes (link - 1) empty_pipes)) h.room;
         pipes = sym (own_pipes link empty_pipes (with_mark mark d) (below_room link (length d.pipes) h.first h.room));
         dropped = sym (dropped_at_last link d.marks);

@@ -10,14 +10,15 @@ use Rattle.nr_reduce.specs.declared.mark.Mark.{Mark}
 use Rattle.nr_requester.specs.RequesterState.{RequesterState}
 use Rattle.nr_requester.specs.OpenCalls.{open_call, KeepsTickets}
 use Rattle.nr_requester.proofs.AnswerSteps.{all_as, all_filter}
-use Rattle.nr_drill.specs.Drill.{client_of, Setting}
+use Rattle.nr_drill.specs.Drill.{client_of, Setting, settles}
 use Rattle.nr_world.specs.declared.awaited.AwaitedCall.{AwaitedCall}
 use Rattle.nr_world.specs.DrillLinkState.{AwaitedLine}
 use Rattle.nr_world.specs.LinkStands.{answers_of, lines_from, is_awaited, awaited_lines}
-use Rattle.nr_world.specs.OpenTickets.{LinesOpen, IsTakenOut, TakesLine, AreApart, calls_without}
+use Rattle.nr_world.specs.OpenTickets.{LinesOpen, IsTakenOut, TakesLine, AreApart, calls_without, TakesCall}
 use Rattle.nr_world.specs.Views.{line_view, call_view}
 use Rattle.nr_world.proofs.CallLines.{filter_parts}
 use Rattle.nr_reduce.specs.History.{AcceptedCall}
+use Rattle.nr_world.proofs.SettledCalls.{lines_without}
 use Rattle.nr_reduce.specs.declared.call.Submission.TheVariants as submissions
 
 -- ---- A line is taken out

@@ -1,7 +1,7 @@
 -- Outcomes that are due are handed over.
 use Rattle.std.specs.Prelude.{◌&&◌, not, slice_get}
 use Rattle.std.specs.List.{AllByRecursion, filter, find, flat_map}
-use Rattle.std.proofs.Common.{◌≡◌, ℕ, ◌+◌, ◌≤◌, arith, zero, suc, eqb, eqb-true, Bool, true, false, cond, List, [], ◌∷◌, ◌++◌, length, map, Option, None, Some, refl, ap, sym, subst, ◌∙◌, append-nil, drop, ◌⊎◌, get_or}
+use Rattle.std.proofs.Common.{◌≡◌, ℕ, ◌+◌, ◌≤◌, arith, zero, suc, eqb, eqb-true, Bool, true, false, cond, List, [], ◌∷◌, ◌++◌, length, map, Option, None, Some, refl, ap, sym, subst, ◌∙◌, append-nil, drop, ◌⊎◌, get_or, Contains}
 use Rattle.std.proofs.lemmas.List.{map-append}
 use Rattle.nr_reduce.specs.declared.call.Outcome.{Outcome}
 use Rattle.nr_reduce.specs.declared.mark.LinkParameters.{LinkParameters}
@@ -24,6 +24,8 @@ use Rattle.nr_world.specs.DrillLinkState.{AwaitedLine}
 use Rattle.nr_world.specs.private.HandsOver.{HaveNoOutcome}
 use Rattle.nr_world.proofs.WaitingAnswers.{CallsApart, waits_unanswered}
 use Rattle.nr_world.specs.LinkStands.{StandsForClient, call_ids, due_calls, line_ids, link_calls, waiting_calls}
+use Rattle.nr_world.proofs.Requesters.{due_first, kept_outcomes}
+use Rattle.nr_world.proofs.SettledCalls.{ids_filtered}
 use Rattle.std.proofs.lemmas.List.Elements.{Contains-append_right}
 use Rattle.nr_reduce.specs.declared.call.Submission.TheVariants as submissions
 use Rattle.nr_reduce.specs.declared.mark.Mark.TheVariants as marks
@@ -58,7 +60,7 @@ none_found due xid (a ∷ answers) off all = by (eqb a.xid xid) refl (none_found
 not_due : (o : LinkParameters) (link : ℕ) (h : RequesterSide) (run : List Mark) (xid : ℕ) → StandsForClient o link h run → is_due link run xid ≡ false → found_answer xid h.state ≡ None
 not_due o link h run xid k off =
     none_found (is_due link run) xid h.state.answered off
-    (subst (λ (cs : List CompletedCall). AllByRecursion (λ (c : CompletedCall). is_due link run c.xid ≡ true) cs) (sym (outcomes_are o link h run k)) (all_kept (λ (c : CompletedCall). is_due link run c.xid) _))
+    (subst (λ (cs : List CompletedCall). AllByRecursion (λ (c : CompletedCall). is_due link run c.xid ≡ true) cs) (sym (kept_outcomes o link h run k)) (all_kept (λ (c : CompletedCall). is_due link run c.xid) _))
 
 -- ---- The first awaited call that has an answer
 

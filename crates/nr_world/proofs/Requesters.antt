@@ -58,26 +58,26 @@ ended_as o link h run (earlier, k) = k.keeps.kept.keeps.ended
 
 -- ---- Its answers
 
-all_answers : (as : List AnsweredCall) → filter (λ (a : AnsweredCall). all_own a.xid) as ≡ as
+all_answers : (answers : List AnsweredCall) → filter (λ (a : AnsweredCall). all_own a.xid) answers ≡ answers
 all_answers [] = refl
-all_answers (a ∷ as) = ap (λ (rest : List AnsweredCall). a ∷ rest) (all_answers as)
+all_answers (a ∷ answers) = ap (λ (rest : List AnsweredCall). a ∷ rest) (all_answers answers)
 
 own_all : (h : RequesterSide) → own_side all_own h ≡ h
-own_all h = ap (λ (as : List AnsweredCall). record h { state = record h.state { answered = as } }) (all_answers h.state.answered)
+own_all h = ap (λ (answers : List AnsweredCall). record h { state = record h.state { answered = answers } }) (all_answers h.state.answered)
 
 -- Of the calls whose answers wait, the one that was submitted first has the outcome that is due first.
 pub due_first : (o : LinkParameters) (link : ℕ) (h : RequesterSide) (run : List Mark) → StandsForClient o link h run → DueFirst o link h run
 due_first o link h run (earlier, k) = subst (λ (x : RequesterSide). DueFirst o link x run) (own_all h) (first_is_kept all_own earlier o link h run k)
 
 -- they are the outcomes that are due, of the messages that came
-pub outcomes_are : (o : LinkParameters) (link : ℕ) (h : RequesterSide) (run : List Mark) → StandsForClient o link h run →
+pub kept_outcomes : (o : LinkParameters) (link : ℕ) (h : RequesterSide) (run : List Mark) → StandsForClient o link h run →
     map completed_of h.state.answered ≡ filter (λ (c : CompletedCall). is_due link run c.xid) (client o link run).state.outcomes
-outcomes_are o link h run (earlier, k) = ap (λ (as : List AnsweredCall). map completed_of as) (sym (all_answers h.state.answered)) ∙ k.answers.outcomes
+kept_outcomes o link h run (earlier, k) = ap (λ (answers : List AnsweredCall). map completed_of answers) (sym (all_answers h.state.answered)) ∙ k.answers.outcomes
 
 -- ---- The next link: no answer waits
 
 no_answer : (r : RequesterState) (xid : ℕ) → r.answered ≡ [] → next_own r xid ≡ all_own xid
-no_answer r xid none = ap (λ (as : List AnsweredCall). not (is_some (find (λ (a : AnsweredCall). eqb a.xid xid) as))) none
+no_answer r xid none = ap (λ (answers : List AnsweredCall). not (is_some (find (λ (a : AnsweredCall). eqb a.xid xid) answers))) none
 
 pub next_stands : (r : RequesterState) (earlier : ℕ) (o : LinkParameters) (link : ℕ) (h : RequesterSide) (run : List Mark) → r.answered ≡ [] → RequesterKeeps (next_own r) earlier o link h run → StandsForClient o link h run
 next_stands r earlier o link h run none k = (earlier, subst (λ (own : ℕ → Bool). RequesterKeeps own earlier o link h run) (λ i xid. no_answer r xid none i) k)

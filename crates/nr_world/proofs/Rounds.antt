@@ -35,7 +35,9 @@ openings_end s clients at d le = sym (ap (λ (links : List ℕ). after_openings 
 
 pub links_from : (links : List ℕ) (at : ℕ) → at < length links → drop at links ≡ slice_index_or links (at + 1 - 1) (at + 1) ∷ drop (at + 1) links
 links_from links at lt =
-    let left : drop at links ≡ slice_index_or links at (at + 1) ∷ drop (at + 1) links = rw (add-one) (drop-cons links at (at + 1) lt) in
+    let one : suc at ≡ at + 1 = omega arith in
+    let left : drop at links ≡ slice_index_or links at (at + 1) ∷ drop (at + 1) links =
+    drop-cons links at (at + 1) lt ∙ ap (λ (n : ℕ). slice_index_or links at (at + 1) ∷ drop n links) one in
     let place : at + 1 - 1 ≡ at = omega arith in
     left ∙ sym (ap (λ (i : ℕ). slice_index_or links i (at + 1) ∷ drop (at + 1) links) place)
 

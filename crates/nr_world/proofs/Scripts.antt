@@ -1,6 +1,6 @@
 -- The lines of a script are within the limits of its world, and its run is that of a drill.
 use Rattle.std.specs.List.{AllByRecursion, range_with_len}
-use Rattle.std.proofs.Common.{◌≡◌, ℕ, ◌+◌, ◌≤◌, arith, true, leb, leb-true, List, [], ◌∷◌, ◌++◌, length, refl, sym, ap, subst, ◌∙◌, Bool, None, map}
+use Rattle.std.proofs.Common.{◌≡◌, ℕ, ◌+◌, ◌≤◌, arith, true, leb, leb-true, List, [], ◌∷◌, ◌++◌, length, refl, sym, ap, subst, ◌∙◌, Bool, None, map, suc}
 use Rattle.std.proofs.lemmas.List.Sums.{sum_by-append}
 use Rattle.nr_tree.specs.Tree.{Tree}
 use Rattle.nr_texts.specs.declared.opening.Opening.{Opening}
@@ -23,7 +23,6 @@ use Rattle.nr_drill.proofs.Actions.{ActsIn, AnyRaw, IsLastOf, IsLineOf, all_act,
 use Rattle.nr_drill.proofs.Actions.Action.{DropLink}
 use Rattle.nr_drill.proofs.BegunLinks.{AreOpen, Holds, begins_so, first_owner, first_then, holds_kept, index_map, index_range, new_holds, open_drill, opened_count, first_count}
 use Rattle.nr_drill.proofs.Lawful.{asked_so_far}
-use Rattle.nr_drill.proofs.LessWork.{not_own}
 use Rattle.nr_drill.proofs.Links.{DrillHolds, LinkHolds}
 use Rattle.nr_drill.proofs.OneRun.{made_once}
 use Rattle.nr_drill.specs.InBytes.{RepliedInBytes, RepliedMark}
@@ -32,15 +31,13 @@ use Rattle.nr_reduce.proofs.Steps.{client_one}
 use Rattle.nr_reduce.specs.Opening.{IsOpened}
 use Rattle.nr_script.specs.Limits.{lines_max}
 use Rattle.nr_world.specs.Steps.{MayLeave, OpensServerSo}
-use Rattle.nr_reduce.specs.Client.{client_rules}
 use Rattle.nr_reduce.specs.Run.{client}
-use Rattle.nr_reduce.specs.EndRules.{end_state_after, EndState}
+use Rattle.nr_reduce.specs.EndRules.{EndState}
 use Rattle.nr_reduce.specs.History.{is_dropped}
-use Rattle.std.specs.Prelude.{slice_index_or}
+use Rattle.std.specs.Prelude.{slice_index_or, ◌-◌}
 use Rattle.nr_reduce.specs.ClientState.{ClientState}
 use Rattle.nr_reduce.specs.declared.mark.LinkParameters.{LinkParameters}
 use Rattle.nr_reduce.specs.declared.mark.Mark.{Mark}
-use Rattle.nr_reduce.specs.Events.{RunEvent}
 use Rattle.nr_script.specs.declared.script.Line.TheVariants as lines
 use Rattle.nr_reduce.specs.declared.mark.Mark.TheVariants as marks
 
@@ -144,7 +141,7 @@ first_world tree script w is h = record {
 -- ===== a client may leave its link, wherever a script says `rejoin`
 
 drop_client : (o : LinkParameters) (link : ℕ) (run : List Mark) → client o link (run ++ marks.Drop link ∷ []) ≡ client o link run
-drop_client o link run = client_one o link run (marks.Drop link) ∙ ap (λ (es : List RunEvent). end_state_after (client_rules o) (client o link run) es) (not_own link [])
+drop_client o link run = client_one o link run (marks.Drop link)
 
 may_leave : (s : Setting) (opening : Opening) (n c link : ℕ) (d : Drill) → suc n ≤ lines_max → IsLastOf opening.clients c link d → opening.numbered ≡ true → (client ((setting_now s d).opened link) link d.marks).ended ≡ None → DrillHolds s opening n d →
     MayLeave ((setting_now s d).opened link) link d.marks
@@ -159,6 +156,7 @@ may_leave s opening n c link d within last numbered stays h =
       opens_next = subst IsOpened begun.new_link next.opened;
       asked = asked_so_far ((setting_now s d).opened link) link d.marks k.lawful;
       none_due = k.due;
+      stays = stays;
     }
 
 may_rejoin : (s : Setting) (opening : Opening) (n c : ℕ) (d : Drill) → suc n ≤ lines_max → (1 ≤ c) × (c ≤ opening.clients) → opening.numbered ≡ true → Holds s opening n d → MayRejoin s (lines.Rejoin c) d
@@ -205,7 +203,7 @@ may_all s opening n (line ∷ all) d within are acts h = (
 pub script_may : (tree : Tree) (script : ScriptLines) → IsScript script →
     MayRejoinIn (drill_setting tree script.opening) script.opening.clients script.lines (opened_drill (server_of (drill_setup tree script.opening)) script.opening)
 script_may tree script is =
-    may_all (drill_setting tree script.opening) script.opening 0 script.lines (opened_drill (server_of (drill_setup tree script.opening)) script.opening) is.few_lines (lines_of script (drill_script script is)) (all_act script.lines)
+    may_all (drill_setting tree script.opening) script.opening 0 script.lines (opened_drill (server_of (drill_setup tree script.opening)) script.opening) (let few = is.few_lines in omega (arith, few)) (lines_of script (drill_script script is)) (all_act script.lines)
     (first_then (server_of (drill_setup tree script.opening)) script (drill_script script is))
 
 -- a world that has just opened can make all lines of the script

@@ -16,6 +16,7 @@ use Rattle.nr_world.specs.DrillLinkState.{DrillLinkState}
 use Rattle.nr_world.specs.LinkStands.{LinkStands, StandsForClient, TracksCalls}
 use Rattle.nr_world.specs.Steps.{Goes, StandsAt}
 use Rattle.nr_world.proofs.WaitingCalls.{leaves_calls}
+use Rattle.nr_world.proofs.CallLines.{SettlesNothing, tracks_on}
 use Rattle.nr_link.specs.declared.end.End.TheVariants as ends
 
 -- the link with other ends and pipes

@@ -113,6 +113,20 @@ none_wait_then o link run mark none =
 no_calls_wait : (o : LinkParameters) (link : ℕ) (run : List Mark) → (client o link run).state.waiting ≡ [] → waiting_calls o link run ≡ []
 no_calls_wait o link run none = ap (λ (ws : List WaitingCall). map as_waiting ws) none
 
+-- the calls that are due, with a call more
+more_due : (o : LinkParameters) (link : ℕ) (run : List Mark) (call : Call) (form : Form) (xid : ℕ) (calls : List AcceptedCall) → calls ≡ due_calls o link run →
+    link_calls o link (run ++ marks.Submit link call form (submissions.Accepted xid) ∷ []) ≡ link_calls o link run ++ call_of xid call form ∷ [] → is_due link run xid ≡ true →
+    calls ++ call_of xid call form ∷ [] ≡ due_calls o link (run ++ marks.Submit link call form (submissions.Accepted xid) ∷ [])
+unfolding due_calls
+more_due o link run call form xid calls is all due =
+    let mark : Mark = marks.Submit link call form (submissions.Accepted xid) in
+    let a : AcceptedCall = call_of xid call form in
+    let p : AcceptedCall → Bool = λ c. is_due link run c.xid in
+    (λ i. is i ++ cond (sym due i) (a ∷ []) [])
+    ∙ sym (filter_parts p (link_calls o link run) (a ∷ []))
+    ∙ sym (filter_as (λ (c : AcceptedCall). is_due link (run ++ mark ∷ []) c.xid) p (link_calls o link run ++ a ∷ []) (λ c. due_same link run mark (λ x. refl) c.xid))
+    ∙ sym (ap (λ (cs : List AcceptedCall). filter (λ (c : AcceptedCall). is_due link (run ++ mark ∷ []) c.xid) cs) all)
+
 pub tracks_accepted : (s : Setting) (link : ℕ) (run : List Mark) (call : Call) (form : Form) (xid lines : ℕ) (awaited : List AwaitedLine) (calls waiting : List AcceptedCall) → is_sent_again s link (submissions.Accepted xid) ≡ false →
     (client (s.opened link) link run).state.waiting ≡ [] → is_due link run xid ≡ true → is_awaited s link run (record { xid = xid; index = lines }) ≡ true → TracksCalls s link run lines awaited calls waiting →
     TracksCalls s link (run ++ marks.Submit link call form (submissions.Accepted xid) ∷ []) (lines + 1) (awaited ++ record { xid = xid; index = lines } ∷ []) (calls ++ call_of xid call form ∷ []) waiting
@@ -134,26 +148,20 @@ tracks_accepted s link run call form xid lines awaited calls waiting new none du
           (λ i. t.awaited_are i ++ cond (sym open_line i) (line ∷ []) [])
           ∙ ap (λ (n : ℕ). awaited_lines s link run ++ filter (is_awaited s link run) (accepted_line n answer)) t.lines_are
           ∙ sym (awaited_more s link run call form answer new);
-      calls_are = more_due o t.calls_are all due;
+      calls_are = more_due o link run call form xid calls t.calls_are all due;
       waiting_are = t.waiting_are ∙ no_calls_wait o link run none ∙ sym (no_calls_wait o link (run ++ mark ∷ []) after);
       same_ids = map-append (λ (c : AcceptedCall). c.xid) calls (a ∷ []) ∙ ap (λ (ns : List ℕ). ns ++ xid ∷ []) t.same_ids ∙ sym (map-append (λ (l : AwaitedLine). l.xid) awaited (line ∷ []));
       none_before = λ x above. elsewhere_on s link x run mark (own_elsewhere s link x mark refl) (t.none_before x above);
     }
-  where
-    more_due : (o : LinkParameters) → calls ≡ due_calls o link run →
-        link_calls o link (run ++ marks.Submit link call form (submissions.Accepted xid) ∷ []) ≡ link_calls o link run ++ call_of xid call form ∷ [] → is_due link run xid ≡ true →
-        calls ++ call_of xid call form ∷ [] ≡ due_calls o link (run ++ marks.Submit link call form (submissions.Accepted xid) ∷ [])
-    unfolding due_calls
-    more_due o is all due =
-        let mark : Mark = marks.Submit link call form (submissions.Accepted xid) in
-        let a : AcceptedCall = call_of xid call form in
-        let p : AcceptedCall → Bool = λ c. is_due link run c.xid in
-        (λ i. is i ++ cond (sym due i) (a ∷ []) [])
-        ∙ sym (filter_parts p (link_calls o link run) (a ∷ []))
-        ∙ sym (filter_as (λ (c : AcceptedCall). is_due link (run ++ mark ∷ []) c.xid) p (link_calls o link run ++ a ∷ []) (λ c. due_same link run mark (λ x. refl) c.xid))
-        ∙ sym (ap (λ (cs : List AcceptedCall). filter (λ (c : AcceptedCall). is_due link (run ++ mark ∷ []) c.xid) cs) all)
 
 -- ---- A call that is sent again
+
+-- the same calls are due
+due_as : (o : LinkParameters) (link : ℕ) (run : List Mark) (w : WaitingCall) → link_calls o link (run ++ resend_mark link w ∷ []) ≡ link_calls o link run → due_calls o link (run ++ resend_mark link w ∷ []) ≡ due_calls o link run
+unfolding due_calls
+due_as o link run w all =
+    ap (λ (cs : List AcceptedCall). filter (λ (c : AcceptedCall). is_due link (run ++ resend_mark link w ∷ []) c.xid) cs) all
+    ∙ filter_as (λ (c : AcceptedCall). is_due link (run ++ resend_mark link w ∷ []) c.xid) (λ (c : AcceptedCall). is_due link run c.xid) (link_calls o link run) (λ c. due_same link run (resend_mark link w) (λ x. refl) c.xid)
 
 pub tracks_resent : (s : Setting) (link : ℕ) (run : List Mark) (w : WaitingCall) (lines : ℕ) (awaited : List AwaitedLine) (calls waiting : List AcceptedCall) → (first : IsFirstWaiting (s.opened link) link run w) → w.xid < (s.opened link).first_xid →
     TracksCalls s link run lines awaited calls waiting → TracksCalls s link (run ++ resend_mark link w ∷ []) lines awaited calls (map as_waiting first.others)
@@ -170,14 +178,8 @@ tracks_resent s link run w lines awaited calls waiting first below t =
     record {
       lines_are = t.lines_are ∙ ap (λ (answers : List Submission). length answers) (sym (answers_same s link run mark none));
       awaited_are = t.awaited_are ∙ sym (awaited_same s link run mark none (λ xid. refl));
-      calls_are = t.calls_are ∙ sym (due_as o all);
+      calls_are = t.calls_are ∙ sym (due_as o link run w all);
       waiting_are = sym (ap (λ (ws : List WaitingCall). map as_waiting ws) first.after);
       same_ids = t.same_ids;
       none_before = λ x above. elsewhere_on s link x run mark (own_elsewhere s link x mark refl) (t.none_before x above);
     }
-  where
-    due_as : (o : LinkParameters) → link_calls o link (run ++ resend_mark link w ∷ []) ≡ link_calls o link run → due_calls o link (run ++ resend_mark link w ∷ []) ≡ due_calls o link run
-    unfolding due_calls
-    due_as o all =
-        ap (λ (cs : List AcceptedCall). filter (λ (c : AcceptedCall). is_due link (run ++ resend_mark link w ∷ []) c.xid) cs) all
-        ∙ filter_as (λ (c : AcceptedCall). is_due link (run ++ resend_mark link w ∷ []) c.xid) (λ (c : AcceptedCall). is_due link run c.xid) (link_calls o link run) (λ c. due_same link run (resend_mark link w) (λ x. refl) c.xid)

@@ -12,6 +12,7 @@ use Rattle.nr_reduce.specs.Opening.{ClientOpened, IsOpened, ServerOpened}
 use Rattle.nr_reduce.specs.OutcomesDue.{outcomes_due}
 use Rattle.nr_laws.specs.Typed.{IsTyped}
 use Rattle.nr_reduce.specs.Reopening.{reopened}
+use Rattle.nr_reduce.specs.Run.{client}
 use Rattle.nr_reduce.specs.declared.mark.Mark.{Mark}
 use Rattle.nr_reduce.specs.declared.mark.LinkParameters.{LinkParameters}
 use Rattle.nr_reduce.specs.declared.mark.TaggedEntry.{TaggedEntry}
@@ -89,7 +90,8 @@ Opens link opening v run run' =
 
 -- ---- A client leaves its link and begins the next one
 
--- It may leave its link: it has a number, the link and the next one are in range, the marks are typed, the client kept its law, and no outcome is due.
+-- It may leave its link: it has a number and its client hasn't ended, the link and the next one are in range, the marks are typed, the client kept its
+-- law, and no outcome is due.
 pub record MayLeave (opened : LinkParameters) (link : ℕ) (run : List Mark) : Type 0 where
   pub numbered : opened.client.number ≢ 0
   pub typed : IsTyped run
@@ -97,6 +99,7 @@ pub record MayLeave (opened : LinkParameters) (link : ℕ) (run : List Mark) : T
   pub opens_next : IsOpened (reopened opened link run)
   pub asked : AskedSoFar opened link run
   pub none_due : outcomes_due opened link run ≡ []
+  pub stays : (client opened link run).ended ≡ None
 
 -- A drill with the next link of the client of a link: it is opened as it goes on from that, and the others are as they were.
 pub record HasNext (s t : Setting) (link next : ℕ) (d e : Drill) : Type 0 where
