@@ -533,7 +533,7 @@ same_settles s t client xid (marks.Execute l x moment payload place reply) is = 
 same_settles s t client xid (marks.Drop l) is = refl
 same_settles s t client xid (marks.Told l what) is = refl
 
-same_answers : (s t : Setting) (client : ℕ) (run : List Mark) → SameOn s t run → flat_map (answer_at t client) run ≡ flat_map (answer_at s client) run
+pub same_answers : (s t : Setting) (client : ℕ) (run : List Mark) → SameOn s t run → flat_map (answer_at t client) run ≡ flat_map (answer_at s client) run
 same_answers s t client [] is = refl
 same_answers s t client (mark ∷ run) is = λ i. same_answer s t client mark is.0 i ++ same_answers s t client run is.1 i
 

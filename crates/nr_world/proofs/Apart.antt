@@ -1,7 +1,8 @@
 -- Marks of other links leave a link.
-use Rattle.std.specs.Prelude.{◌-◌, ◌||◌, if◌then◌else◌, ◌&&◌}
+use Rattle.std.specs.Prelude.{◌-◌, ◌||◌, ◌==◌, if◌then◌else◌, ◌&&◌}
 use Rattle.std.specs.List.{AllByRecursion, list_any}
 use Rattle.std.proofs.Common.{◌≡◌, ◌≢◌, ℕ, ◌≤◌, arith, eqb, Bool, false, List, [], ◌∷◌, ◌++◌, length, refl, ap, sym, subst, ◌∙◌, append_assoc, append-nil, not}
+use Rattle.nr_world.proofs.CallLines.{SettlesNothing, tracks_on}
 use Rattle.nr_wire.specs.declared.hello.Side.TheVariants.{Initiator, Responder}
 use Rattle.nr_reduce.specs.declared.mark.Mark.{Mark}
 use Rattle.nr_reduce.specs.History.{CompletedCall, is_dropped, accepted_as, accepted_at}

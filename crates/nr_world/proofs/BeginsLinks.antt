@@ -25,7 +25,7 @@ use Rattle.nr_world.proofs.FreshLinks.{next_server}
 use Rattle.nr_world.proofs.JournalSteps.{stays}
 use Rattle.nr_world.proofs.NextLinks.{same_stands}
 use Rattle.nr_world.proofs.Others.{others_stand}
-use Rattle.nr_world.proofs.SameServer.{opening_leaves}
+use Rattle.nr_world.proofs.SameServer.{opening_leaves, Leaves}
 use Rattle.nr_world.proofs.Stands.{client_in, frame_stays, stands_at}
 
 false_true : false ≢ true
@@ -175,7 +175,7 @@ module _ (s : Setting) (clients c : ℕ) (d : Drill) (f : HasLastLinks s clients
   last_owner from n = ap (λ (m : ℕ). map (client_of u) (range_with_len from m)) (add-one n) ∙ by from n
     where
       by : (first k : ℕ) → map (client_of u) (range_with_len first (suc k)) ≡ map (client_of u) (range_with_len first k) ++ client_of u (first + k) ∷ []
-      by first zero = ap (λ (m : ℕ). client_of u m ∷ []) (omega arith)
+      by first zero = let place : first ≡ first + 0 = omega arith in ap (λ (m : ℕ). client_of u m ∷ []) place
       by first (suc k) =
           let place : first + 1 + k ≡ first + suc k = omega arith in
           ap (λ (rest : List ℕ). client_of u first ∷ rest) (by (first + 1) k) ∙ ap (λ (m : ℕ). client_of u first ∷ (map (client_of u) (range_with_len (first + 1) k) ++ client_of u m ∷ [])) place
@@ -236,6 +236,8 @@ begins_link c w n v v2 number e is count a begins tree opening d h may =
 
     x : Extends next begun new
     x = opening_adds u next begun
+
+    leaves : Leaves begun new
     leaves = opening_leaves u next begun
 
     same : u ≡ setting_now s new

@@ -1,23 +1,27 @@
 -- What the plain server of a drill makes of a call, as a run says it.
 use Rattle.std.specs.Prelude.{◌==◌, get_or, All}
-use Rattle.std.proofs.Common.{◌≡◌, ℕ, ◌+◌, arith, ltb, Bool, true, false, cond, List, [], ◌∷◌, ◌++◌, length, map, ◌⊎◌, inl, inr, refl, sym, ap, subst, ◌∙◌, append-nil, length-append, ltb-true}
+use Rattle.std.proofs.Common.{◌≡◌, ℕ, ◌+◌, ◌<◌, ◌≤◌, arith, ltb, Bool, true, false, cond, List, [], ◌∷◌, ◌++◌, length, map, ◌⊎◌, inl, inr, refl, sym, ap, subst, ◌∙◌, append-nil, length-append, ltb-true}
 use Rattle.std.proofs.lemmas.Bool.{ltb-false}
 use Rattle.std.proofs.lemmas.List.{length-map, map-append}
 use Rattle.nr_xdr.specs.Item.{IsBytes}
 use Rattle.nr_outside.specs.declared.moment.Moment.{Moment}
 use Rattle.nr_reduce.specs.declared.mark.Entry.{Entry}
 use Rattle.nr_reduce.specs.declared.mark.TaggedEntry.{TaggedEntry}
-use Rattle.nr_reduce.specs.NumberedJournal.{Standing, IsExecutedBy, IsReplyOf, added_by, entries_alone, standing_for, tagged}
+use Rattle.nr_reduce.specs.NumberedJournal.{Standing, IsExecutedBy, IsOld, IsReplyOf, added_by, entries_alone, standing_for, tagged}
 use Rattle.nr_reduce.specs.NumberedJournal.Standing.{Old, Kept, New}
 use Rattle.nr_plain.specs.Setup.{Setup}
 use Rattle.nr_plain.specs.Added.{entries_of_call}
 use Rattle.nr_plain.specs.History.{AddsOne, entries_added, xid_in}
-use Rattle.nr_plain.specs.Numbered.{AnsweredAsRun, AnswersFor, HasCall, RepresentsTagged, added_for}
+use Rattle.nr_plain.specs.Numbered.{AnsweredAsRun, AnswersFor, HasCall, IsNumberedCause, LeavesServer, RepresentsTagged, added_for}
 use Rattle.nr_plain.specs.ReplyLaws.{plain_server}
+use Rattle.nr_plain.specs.ReplySizes.{any_reply_max}
+use Rattle.nr_plain.specs.Stands.{PlainServerState, RepresentsJournal}
+use Rattle.nr_plain.specs.declared.fault.Fault.{Fault}
+use Rattle.nr_plain.specs.declared.fault.Fault.TheVariants as faults
 use Rattle.nr_plain.proofs.EntryCalls.{moment_is}
 use Rattle.nr_plain.proofs.OneEntry.{few}
-use Rattle.nr_plain.proofs.TurnAnswers.{answered_as_run}
-use Rattle.nr_world.specs.DrillServers.{DrillServerState, ExecutesFor, StandsForEntries, at_second, seconds_if}
+use Rattle.nr_plain.proofs.TurnAnswers.{answered_as_run, old_calls}
+use Rattle.nr_world.specs.DrillServers.{DrillServerState, ExecutesCall, ExecutesFor, FindsOld, StandsForEntries, at_second, seconds_if}
 
 abbrev moment_of : TaggedEntry → Moment
 moment_of t = t.entry.moment
@@ -139,3 +143,54 @@ executed_call setup T client now payload reply place start before after h bytes 
         moments = grown T added now before.seconds (few_added client now payload reply k) h.moments ∙ ap (λ (ns : List ℕ). map at_second ns) (sym seconds);
       };
     }
+
+-- ---- For the code
+
+-- the second of an entry is noted, if the journal grew
+pub none_noted : (before now len : ℕ) (seconds : List ℕ) → len ≤ before → seconds ≡ seconds ++ seconds_if (ltb before len) now
+none_noted before now len seconds le = by (ltb before len) refl
+  where
+    by : (b : Bool) → ltb before len ≡ b → seconds ≡ seconds ++ seconds_if b now
+    by true is = absurd (let lt = ltb-true before len is in omega (arith, lt, le))
+    by false is = sym (append-nil seconds)
+
+pub one_noted : (before now len : ℕ) (seconds : List ℕ) → before < len → seconds ++ now ∷ [] ≡ seconds ++ seconds_if (ltb before len) now
+one_noted before now len seconds lt = by (ltb before len) refl
+  where
+    by : (b : Bool) → ltb before len ≡ b → seconds ++ now ∷ [] ≡ seconds ++ seconds_if b now
+    by true is = refl
+    by false is = absurd (let no = ltb-false before len is in omega (arith, no, lt))
+
+pub old_found : (client top : ℕ) (payload : List ℕ) (before after : PlainServerState) (seconds : List ℕ) (old : DrillServerState) (f : Fault) → record { server = before; seconds = seconds } ≡ old → f ≡ faults.Old top → LeavesServer f before after →
+    ((setup : Setup) (T : List TaggedEntry) → RepresentsTagged setup T before → IsNumberedCause setup T client payload f) → FindsOld client payload old (record { server = after; seconds = seconds })
+old_found client top payload before after seconds old f view is leaves cause =
+    let same : after ≡ before = subst (λ (x : Fault). LeavesServer x before after) is leaves in (
+      ap (λ (kept : PlainServerState). record { server = kept; seconds = seconds }) same ∙ view,
+      λ setup T h.
+          (let represents : RepresentsTagged setup T before = subst (λ (kept : DrillServerState). RepresentsTagged setup T kept.server) (sym view) h.represents in
+          let found = subst (λ (x : Fault). IsNumberedCause setup T client payload x) is (cause setup T represents) in
+          subst (λ (k : Standing). IsOld k) (sym (old_calls setup T client (xid_in payload) top found.1)) tt),
+    )
+
+-- the seconds after the call: those of before, and one more, if the journal grew from `start`
+abbrev pub Notes : (start now : ℕ) → (seconds : List ℕ) → PlainServerState → DrillServerState → Type 0
+Notes start now seconds after new =
+    (new.server ≡ after) × ((setup : Setup) (J : List Entry) → RepresentsJournal setup J after → new.seconds ≡ seconds ++ seconds_if (ltb start (length J)) now)
+
+pub executes_code : (client now : ℕ) (payload reply : List ℕ) (place start second : ℕ) (before after : PlainServerState) (seconds : List ℕ) (old new : DrillServerState) → record { server = before; seconds = seconds } ≡ old →
+    IsBytes payload → IsBytes reply → length reply ≤ any_reply_max →
+    ((setup : Setup) (T : List TaggedEntry) → RepresentsTagged setup T before → AnswersFor setup T client (at_second now) payload reply place before after) →
+    ((setup : Setup) (J : List Entry) → RepresentsJournal setup J before → start ≡ length J) → second ≡ get_or seconds place now → Notes start now seconds after new →
+    ExecutesCall client now payload (record { second = second; place = place; reply = reply }) old new
+executes_code client now payload reply place start second before after seconds old new view bytes reply_bytes short answers count at notes =
+    subst (λ (kept : DrillServerState). ExecutesCall client now payload (record { second = second; place = place; reply = reply }) kept new) view
+    (subst (λ (n : ℕ). ExecutesCall client now payload (record { second = n; place = place; reply = reply }) (record { server = before; seconds = seconds }) new) (sym at) (
+      reply_bytes,
+      short,
+      λ setup T h.
+          (let a : AnswersFor setup T client (at_second now) payload reply place before after = answers setup T h.represents in
+          let own : List TaggedEntry = added_for setup T (record { client = client; moment = at_second now; payload = payload; reply = reply }) in
+          executed_call setup T client now payload reply place start (record { server = before; seconds = seconds }) new h bytes
+          (subst (λ (kept : PlainServerState). AnswersFor setup T client (at_second now) payload reply place before kept) (sym notes.0) a) (count setup (entries_alone T) h.represents.journal)
+          (notes.1 setup (entries_alone (T ++ own)) a.stands.journal)),
+    ))

@@ -15,6 +15,7 @@ use Rattle.nr_world.proofs.Standing.{with_ends, ends_of, other_pipes, replied_on
 use Rattle.nr_world.proofs.Writes.{server_stays, one_more_mark}
 use Rattle.nr_world.proofs.WaitingCalls.{leaves_calls}
 use Rattle.nr_world.proofs.Requesters.{others_leave}
+use Rattle.nr_world.proofs.CallLines.{tracks_on}
 use Rattle.nr_reduce.specs.declared.mark.Mark.TheVariants as marks
 
 -- the link once it is dropped

@@ -123,7 +123,7 @@ executes seconds v v2 run run2 kept kept2 xid client payload e stands has heard 
     let ex : IsExecuted o link d.marks xid payload = has o link d.marks (inl h.server) in
     let hears = heard o link d.marks (inl h.server) in
     let own : xid ≡ xid_in payload = own_xid o link d.marks xid payload ex in
-    let x : ExecutesFor setup T client seconds payload e kept2 = served.1.1 setup T stood.entries in
+    let x : ExecutesFor setup T client seconds payload e kept2 = served.2 setup T stood.entries in
     let same : standing_for T client (xid_in payload) ≡ standing_for T (number_heard d.marks link) ex.call.xid = (λ i. standing_for T (hears.0 i) ((sym own ∙ ex.own) i)) in
     let executed : IsExecutedBy (plain_server setup) T (standing_for T (number_heard d.marks link) ex.call.xid) moment ex.call.payload e.place e.reply =
     subst (λ (p : List ℕ). IsExecutedBy (plain_server setup) T (standing_for T (number_heard d.marks link) ex.call.xid) moment p e.place e.reply) ex.conveyed

@@ -27,10 +27,10 @@ use Rattle.nr_drill.proofs.Carried.{same_dropped, own_pipes}
 use Rattle.nr_world.specs.DrillLinkState.{AwaitedLine, DrillLinkState}
 use Rattle.nr_world.specs.LinkStands.{StandsForClient, TracksCalls, all_own, as_waiting, waiting_calls}
 use Rattle.nr_world.specs.Steps.{Goes, StandsAt}
-use Rattle.nr_world.specs.private.Working.{again_mark, resends_of}
+use Rattle.nr_world.specs.private.Working.{NotesResends, again_mark, resends_of}
 use Rattle.nr_world.proofs.GivenCalls.{accepted_lives}
 use Rattle.nr_world.proofs.Requesters.{ended_as, none_again}
-use Rattle.nr_world.proofs.Standing.{IsPlain, below_room, plain_tracks, replied_one}
+use Rattle.nr_world.proofs.Standing.{IsPlain, below_room, from_view, plain_tracks, replied_one}
 use Rattle.nr_world.proofs.SubmittedCalls.{tracks_resent}
 use Rattle.nr_world.proofs.WaitingCalls.{first_waiting, waiting_below}
 use Rattle.nr_world.proofs.Writes.{server_stays}
@@ -209,6 +209,17 @@ down_fed v asks n (b ∷ bytes) pipes run run2 taken some takes ends_not is more
       marks = run_is;
       replies = subst RepliedInBytes (sym run_is) (again_replied link fed ws (replied_one d.marks mark (λ before. tt) (subst RepliedInBytes at.marks at.replies)));
     })
+
+-- as the code has it
+pub fed_and_noted : (v v0 v2 : DrillLinkState) (asks : RequesterSide) (n : ℕ) (piece : List ℕ) (pipes : Pipes) (run run1 run2 : List Mark) → v ≡ v0 → piece ≡ take n v.pipes.down → piece ≢ [] → KeepsPiece v.client piece asks →
+    asks.state.side.ended ≢ Some ends.Memory → pipes ≡ record { up = v.pipes.up; down = drop n v.pipes.down } → run1 ≡ run ++ marks.Fed v.number Initiator piece ∷ [] → NotesResends (record v { client = asks; pipes = pipes }) v2 run1 run2 →
+    Goes (λ s link d. after_resends s link (after_feeding_down link n d)) v0 v2 run run2
+fed_and_noted v v0 v2 asks n piece pipes run run1 run2 is taken some takes ends_not rest more notes =
+    let f : Setting → ℕ → Drill → Drill = λ s link d. after_resends s link (after_feeding_down link n d) in
+    subst (λ (x : DrillLinkState). Goes f v0 x run run2) (sym notes.link_is)
+    (from_view f v v0 (fed_link v asks pipes) run run2 is
+    (down_fed v asks n piece pipes run run2 taken some takes ends_not rest
+    (notes.marks_are ∙ ap (λ (ms : List Mark). ms ++ map (again_mark v.number) (take (resends_of asks.state.side.ended (length v.waiting) (length asks.state.side.send_queue.held)) v.waiting)) more)))
 
 -- fed, handed over, settled
 down_is : (s : Setting) (link n : ℕ) (d : Drill) → after_down s link n d ≡ settled s link (after_outcomes s link (after_resends s link (after_feeding_down link n d)))

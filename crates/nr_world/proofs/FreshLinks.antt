@@ -3,11 +3,12 @@ use Rattle.std.specs.Prelude.{◌||◌, ◌&&◌, not}
 use Rattle.std.specs.List.{AllByRecursion, filter, list_any}
 use Rattle.std.proofs.Common.{◌≡◌, ◌≢◌, ℕ, true, false, eqb, List, [], ◌∷◌, ◌++◌, map, Option, None, Some, refl, ap, sym, subst, ◌∙◌, append-nil, append_assoc}
 use Rattle.std.proofs.lemmas.Bool.{ne_eqb}
+use Rattle.nr_reduce.specs.Events.{events}
 use Rattle.nr_wire.specs.declared.hello.Side.TheVariants.{Initiator, Responder}
 use Rattle.nr_link.specs.Agreement.{terms_with}
 use Rattle.nr_link.specs.declared.end.End.{End}
 use Rattle.nr_reduce.specs.ClientState.{waiting_from}
-use Rattle.nr_reduce.specs.History.{AcceptedCall, accepted_calls, is_dropped}
+use Rattle.nr_reduce.specs.History.{AcceptedCall, accepted_calls, is_dropped, completed_calls}
 use Rattle.nr_reduce.specs.Opening.{ServerOpened}
 use Rattle.nr_reduce.specs.Reopening.{reopened}
 use Rattle.nr_reduce.specs.Run.{client}
@@ -94,20 +95,20 @@ resumed_call r = record { xid = r.xid; call = r.call; form = r.form }
 abbrev pub next_calls : LinkParameters → List AcceptedCall
 next_calls o = map resumed_call o.resumed
 
-waits_from : (stag : ℕ) (rs : List ResumedCall) → map as_waiting (waiting_from stag rs) ≡ map resumed_call rs
-waits_from stag [] = refl
-waits_from stag (r ∷ rs) = ap (λ (cs : List AcceptedCall). resumed_call r ∷ cs) (waits_from _ rs)
+waits_from : (rs : List ResumedCall) (stag : ℕ) → map as_waiting (waiting_from stag rs) ≡ map resumed_call rs
+waits_from [] stag = refl
+waits_from (r ∷ rs) stag = ap (λ (cs : List AcceptedCall). resumed_call r ∷ cs) (waits_from rs _)
 
 all_due : (cs : List AcceptedCall) → filter (λ (a : AcceptedCall). true) cs ≡ cs
 all_due [] = refl
 all_due (c ∷ cs) = ap (λ (rest : List AcceptedCall). c ∷ rest) (all_due cs)
 
 waits_before : (o : LinkParameters) (link : ℕ) → waiting_calls o link [] ≡ next_calls o
-unfolding client
-waits_before o link = waits_from o.first_stag o.resumed
+unfolding client events
+waits_before o link = waits_from o.resumed o.first_stag
 
 due_before : (o : LinkParameters) (link : ℕ) → due_calls o link [] ≡ next_calls o
-unfolding due_calls accepted_calls
+unfolding due_calls accepted_calls completed_calls
 due_before o link = all_due (waiting_calls o link []) ∙ waits_before o link
 
 waits_over : (o : LinkParameters) (link : ℕ) (before more : List Mark) → NoneOf link more → waiting_calls o link (before ++ more) ≡ waiting_calls o link before

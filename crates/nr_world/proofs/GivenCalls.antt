@@ -1,8 +1,9 @@
 -- A call that is submitted.
 use Rattle.std.specs.Prelude.{◌&&◌, is_some, IfOk}
 use Rattle.std.specs.List.{AllByRecursion}
-use Rattle.std.proofs.Common.{◌≡◌, ◌≢◌, ℕ, ◌+◌, ◌≤◌, arith, ltb, Bool, true, false, List, [], ◌∷◌, ◌++◌, length, Option, None, Some, Result, Ok, Err, refl, ap, sym, subst, ◌∙◌, ltb-true, map, not, eqb, nat_lt}
+use Rattle.std.proofs.Common.{◌≡◌, ◌≢◌, ℕ, ◌+◌, ◌≤◌, arith, ltb, Bool, true, false, List, [], ◌∷◌, ◌++◌, length, Option, None, Some, Result, Ok, Err, refl, ap, sym, subst, ◌∙◌, ltb-true, map, not, eqb, nat_lt, eqb-true, cond}
 use Rattle.nr_link.specs.declared.end.End.{End}
+use Rattle.nr_world.proofs.SubmittedCalls.{tracks_refused, tracks_accepted}
 use Rattle.nr_wire.specs.declared.hello.Side.TheVariants.{Initiator}
 use Rattle.nr_reduce.specs.declared.call.Call.{Call}
 use Rattle.nr_reduce.specs.declared.call.Form.{Form}
@@ -33,13 +34,13 @@ use Rattle.nr_drill.specs.Drill.{Setting, Drill, with_mark, settled, after_submi
 use Rattle.nr_drill.specs.InBytes.{RepliedInBytes}
 use Rattle.nr_drill.proofs.Carried.{same_dropped}
 use Rattle.nr_world.specs.DrillLinkState.{AwaitedLine, DrillLinkState}
-use Rattle.nr_world.specs.LinkStands.{is_awaited, LinkStands, StandsForClient}
+use Rattle.nr_world.specs.LinkStands.{is_awaited, LinkStands, StandsForClient, TracksCalls}
 use Rattle.nr_world.specs.OpenTickets.{LinesOpen, SubmitsLine, AnswersCall}
 use Rattle.nr_world.specs.Steps.{Goes, StandsAt}
 use Rattle.nr_world.proofs.Standing.{replied_one}
 use Rattle.nr_world.proofs.Writes.{server_stays, one_more_mark}
 use Rattle.nr_world.proofs.GivenLines.{open_others}
-use Rattle.nr_world.proofs.Requesters.{ended_as, others_leave}
+use Rattle.nr_world.proofs.Requesters.{ended_as, others_leave, answers_as, asks_on}
 use Rattle.nr_laws.proofs.ResumedCalls.{next_least}
 use Rattle.nr_requester.specs.Sending.{has_credit}
 use Rattle.nr_world.proofs.EarlierCalls.{none_settled}
@@ -118,7 +119,7 @@ unfolding answer_of
 accepted_next r call form xid e = next_if r call form r.side.ended xid e
 
 -- a call is accepted only while no Send is held back
-credit_if : (b : Bool) (answer : Submission) (why : Refused) (xid : ℕ) → (if b then answer else submissions.Refused why) ≡ submissions.Accepted xid → b ≡ true
+credit_if : (b : Bool) (answer : Submission) (why : Refused) (xid : ℕ) → cond b answer (submissions.Refused why) ≡ submissions.Accepted xid → b ≡ true
 credit_if true answer why xid e = refl
 credit_if false answer why xid e = absurd (refused_apart why xid e)
 
@@ -188,7 +189,7 @@ unfolding client_end
 lives_on o k None place a none = refl
 lives_on o k (Some end) place a none = absurd cc
 
-accepted_lives : (o : LinkParameters) (link : ℕ) (run : List Mark) (call : Call) (form : Form) (xid : ℕ) → (client o link run).ended ≡ None → (client o link (run ++ marks.Submit link call form (submissions.Accepted xid) ∷ [])).ended ≡ None
+pub accepted_lives : (o : LinkParameters) (link : ℕ) (run : List Mark) (call : Call) (form : Form) (xid : ℕ) → (client o link run).ended ≡ None → (client o link (run ++ marks.Submit link call form (submissions.Accepted xid) ∷ [])).ended ≡ None
 accepted_lives o link run call form xid none =
     let a : AcceptedCall = record { xid = xid; call = call; form = form } in
     let place : ℕ = length (bytes_received link Initiator run) in

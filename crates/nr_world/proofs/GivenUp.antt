@@ -13,18 +13,19 @@ use Rattle.nr_requester.specs.AfterCalls.{after_forget as forgotten, after_revok
 use Rattle.nr_requester.specs.Buffers.{bytes_of_buffers}
 use Rattle.nr_requester.specs.OpenCalls.{open_call, buffers_of}
 use Rattle.nr_requester.proofs.HandedBack.{open_remains}
-use Rattle.nr_drill.specs.Drill.{Setting, Drill, with_mark, settled, answer_of_line, is_open, open_xid, after_giving_up, after_forget, after_taking_back, after_revoke, client_of}
+use Rattle.nr_drill.specs.Drill.{Setting, Drill, with_mark, settled, answer_of_line, is_open, open_xid, after_giving_up, after_forget, after_taking_back, after_revoke, client_of, settles}
 use Rattle.nr_drill.specs.InBytes.{RepliedInBytes}
 use Rattle.nr_drill.proofs.Carried.{same_dropped}
 use Rattle.nr_world.specs.DrillLinkState.{AwaitedLine, DrillLinkState}
 use Rattle.nr_world.specs.LinkStands.{answers_of, LinkStands, StandsForClient}
-use Rattle.nr_world.specs.OpenTickets.{LinesOpen, IsTakenOut, TakesLine, calls_without}
+use Rattle.nr_world.specs.OpenTickets.{LinesOpen, IsTakenOut, TakesLine, calls_without, TakesCall}
 use Rattle.nr_world.specs.Steps.{Goes, StandsAt}
 use Rattle.nr_world.proofs.Standing.{replied_one, from_view}
 use Rattle.nr_world.proofs.Writes.{server_stays, one_more_mark}
-use Rattle.nr_world.proofs.GivenLines.{line_answer, line_awaited, not_awaited}
+use Rattle.nr_world.proofs.GivenLines.{line_answer, line_awaited, not_awaited, left_without}
 use Rattle.nr_requester.specs.ReopenedLinks.{KeepsOn}
-use Rattle.nr_world.proofs.Requesters.{ended_as}
+use Rattle.nr_world.proofs.Requesters.{ended_as, revoked_are, asks_on}
+use Rattle.nr_world.proofs.SettledCalls.{SettlesOne, forget_settles, tracks_less, revoke_settles}
 use Rattle.nr_reduce.specs.declared.call.Submission.TheVariants as submissions
 use Rattle.nr_reduce.specs.declared.mark.Mark.TheVariants as marks
 

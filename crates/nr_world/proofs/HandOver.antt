@@ -1,7 +1,7 @@
 -- Outcomes that are due are handed over.
 use Rattle.std.specs.Prelude.{◌&&◌, not, slice_get}
 use Rattle.std.specs.List.{AllByRecursion, filter, find, flat_map}
-use Rattle.std.proofs.Common.{◌≡◌, ℕ, ◌+◌, ◌≤◌, arith, zero, suc, eqb, eqb-true, Bool, true, false, cond, List, [], ◌∷◌, ◌++◌, length, map, Option, None, Some, refl, ap, sym, subst, ◌∙◌, append-nil, drop, ◌⊎◌, get_or, Contains}
+use Rattle.std.proofs.Common.{◌≡◌, ℕ, ◌+◌, ◌≤◌, arith, zero, suc, eqb, eqb-true, Bool, true, false, cond, List, [], ◌∷◌, ◌++◌, length, map, Option, None, Some, refl, ap, sym, subst, ◌∙◌, append-nil, drop, ◌⊎◌, get_or, Contains, inr, inl, ⊎_elim}
 use Rattle.std.proofs.lemmas.List.{map-append}
 use Rattle.nr_reduce.specs.declared.call.Outcome.{Outcome}
 use Rattle.nr_reduce.specs.declared.mark.LinkParameters.{LinkParameters}
@@ -24,6 +24,7 @@ use Rattle.nr_world.specs.DrillLinkState.{AwaitedLine}
 use Rattle.nr_world.specs.private.HandsOver.{HaveNoOutcome}
 use Rattle.nr_world.proofs.WaitingAnswers.{CallsApart, waits_unanswered}
 use Rattle.nr_world.specs.LinkStands.{StandsForClient, call_ids, due_calls, line_ids, link_calls, waiting_calls}
+use Rattle.nr_drill.proofs.Lawful.{here}
 use Rattle.nr_world.proofs.Requesters.{due_first, kept_outcomes}
 use Rattle.nr_world.proofs.SettledCalls.{ids_filtered}
 use Rattle.std.proofs.lemmas.List.Elements.{Contains-append_right}

@@ -1,7 +1,7 @@
 -- What a line makes of a world, and lines one after another.
 use Rattle.std.specs.Prelude.{slice_set, slice_index_or, ◌-◌}
 use Rattle.std.specs.List.{AllByRecursion, list_all}
-use Rattle.std.proofs.Common.{◌≡◌, Bool, false, ℕ, ◌+◌, ◌<◌, ◌≤◌, arith, zero, suc, List, [], ◌∷◌, length, drop, add-zero, add-one, get_or, refl, sym, ap, subst, ◌∙◌, Option, Some}
+use Rattle.std.proofs.Common.{◌≡◌, Bool, false, ℕ, ◌+◌, ◌<◌, ◌≤◌, arith, zero, suc, List, [], ◌∷◌, length, drop, add-zero, add-one, get_or, refl, sym, ap, subst, ◌∙◌, Option, Some, true, None}
 use Rattle.std.proofs.lemmas.List.{length-set}
 use Rattle.std.proofs.Math.Seq.{drop-cons}
 use Rattle.std.proofs.Math.ListN.{drop_of_length-le}

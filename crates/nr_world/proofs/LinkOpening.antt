@@ -18,6 +18,7 @@ use Rattle.nr_reduce.proofs.Unresumed.{none_waits}
 use Rattle.nr_requester.specs.KeptAnswers.{is_due}
 use Rattle.nr_reduce.specs.Opening.{IsFirstLink}
 use Rattle.nr_reduce.specs.ClientState.{WaitingCall}
+use Rattle.nr_world.proofs.Requesters.{first_stands}
 use Rattle.nr_link.specs.declared.end.End.TheVariants as ends
 
 none_awaited : (s : Setting) (link : ℕ) → [] ≡ awaited_lines s link []

@@ -1,11 +1,14 @@
 -- The code notes which calls were sent again: the first ones, until as many wait as the client says.
-use Rattle.std.specs.Prelude.{◌-◌, is_some, slice_index_or}
+use Rattle.std.specs.Prelude.{◌-◌, is_some, slice_index_or, get_or}
+use Rattle.std.specs.List.{remove}
 use Rattle.std.proofs.Common.{◌≡◌, ℕ, ◌+◌, ◌<◌, ◌≤◌, arith, zero, suc, true, List, [], ◌∷◌, ◌++◌, length, map, take, drop, Option, None, Some, refl, ap, sym, ◌∙◌, append-nil, append_assoc}
 use Rattle.std.proofs.lemmas.List.{map-append}
 use Rattle.nr_link.specs.declared.end.End.{End}
 use Rattle.nr_reduce.specs.History.{AcceptedCall}
 use Rattle.nr_reduce.specs.declared.mark.Mark.{Mark}
+use Rattle.nr_world.specs.declared.awaited.HeldCall.{HeldCall}
 use Rattle.nr_world.specs.DrillLinkState.{DrillLinkState}
+use Rattle.nr_world.specs.Views.{held_view}
 use Rattle.nr_world.specs.private.Working.{NotesResends, again_mark, resends_in, resends_of}
 
 -- some of them, of the link before, where `waiting` are left in the end
@@ -77,3 +80,8 @@ noted_ended v run e = by v.client.state.side.ended refl e
           link_is = ap (λ (m : ℕ). record v { waiting = drop m v.waiting }) none;
           marks_are = sym (append-nil run) ∙ ap (λ (m : ℕ). run ++ map (again_mark v.number) (take m v.waiting)) none;
         }
+
+-- as the code has it: the first of the calls that wait is taken out
+pub held_first : (held left : List HeldCall) (x : HeldCall) → 0 < length held → x ≡ get_or held 0 x → left ≡ remove held 0 → map held_view held ≡ held_view x ∷ map held_view left
+held_first [] left x lt at is = absurd (omega (arith, lt))
+held_first (h ∷ hs) left x lt at is = (λ i. held_view (sym at i) ∷ map held_view (sym is i))

@@ -82,7 +82,7 @@ no_marks_stand : (tree : Tree) (opening : Opening) (kept : DrillServerState) (se
     ServerStands (drill_setup tree opening) (start (drill_setting tree opening) opening.clients) kept
 unfolding tagged_journal
 no_marks_stand tree opening kept server is h = subst (ServerStands (drill_setup tree opening) (start (drill_setting tree opening) opening.clients)) (sym is) (record {
-  entries = record { represents = h; calls = tt; moments = refl };
+  entries = record { represents = h; calls = λ at entry lt. absurd (omega (arith, lt)); moments = refl };
   heard = tt;
 })
 
@@ -174,7 +174,7 @@ first_range : (n : ℕ) → range_with_len 1 n ++ (n + 1) ∷ [] ≡ range_with_
 first_range n = by 1 n ∙ ap (λ (k : ℕ). range_with_len 1 k) (sym (add-one n))
   where
     by : (from k : ℕ) → range_with_len from k ++ (k + from) ∷ [] ≡ range_with_len from (suc k)
-    by from zero = refl
+    by from zero = let place : 0 + from ≡ from = omega arith in ap (λ (m : ℕ). m ∷ []) place
     by from (suc k) =
         let next : suc k + from ≡ k + (from + 1) = omega arith in
         ap (λ (m : ℕ). from ∷ (range_with_len (from + 1) k ++ m ∷ [])) next ∙ ap (λ (xs : List ℕ). from ∷ xs) (by (from + 1) k)

@@ -1,6 +1,6 @@
 -- What the code hands to the lemmas of a step.
 use Rattle.std.specs.Prelude.{◌↔◌, Result, Ok, Err, IfOk, IsTrue}
-use Rattle.std.proofs.Common.{◌≡◌, ◌≢◌, ℕ, ◌≤◌, Bool, true, false, List, [], ◌∷◌, ◌++◌, length, map, take, None, Some, refl, ap, sym, subst, ◌∙◌, cond, ◌⊎◌}
+use Rattle.std.proofs.Common.{◌≡◌, ◌≢◌, ℕ, ◌≤◌, Bool, true, false, List, [], ◌∷◌, ◌++◌, length, map, take, None, Some, refl, ap, sym, subst, ◌∙◌, cond, ◌⊎◌, inl, inr}
 use Rattle.std.proofs.Math.Seq.{take-length}
 use Rattle.nr_wire.specs.declared.hello.Side.{Side}
 use Rattle.nr_wire.specs.declared.hello.Side.TheVariants.{Initiator, Responder}
@@ -11,7 +11,7 @@ use Rattle.nr_reduce.specs.declared.mark.LinkParameters.{LinkParameters}
 use Rattle.nr_reduce.specs.declared.mark.Mark.{Mark}
 use Rattle.nr_reduce.specs.History.{is_dropped}
 use Rattle.nr_requester.specs.RequesterState.{RequesterSide, RequesterState}
-use Rattle.nr_requester.specs.AfterCalls.{opened_as}
+use Rattle.nr_requester.specs.AfterCalls.{opened_as, numbered_terms}
 use Rattle.nr_responder.specs.ResponderState.{ResponderSide, may_write, end_of}
 use Rattle.nr_responder.specs.Draining.{Drains}
 use Rattle.nr_responder.specs.Standing.{ResponderRepresents}
@@ -26,7 +26,7 @@ use Rattle.nr_world.specs.Transits.{TransitState}
 use Rattle.nr_world.specs.OpenTickets.{AreOpen}
 use Rattle.nr_world.specs.Steps.{Goes, ClientWrites, ServerWrites, IsFresh}
 use Rattle.nr_texts.specs.declared.opening.Opening.{Opening}
-use Rattle.nr_world.specs.Views.{line_view, link_view, call_view}
+use Rattle.nr_world.specs.Views.{line_view, link_view, call_view, held_view}
 use Rattle.nr_world.proofs.OpenTickets.{none_open, kept_open}
 use Rattle.nr_world.proofs.Standing.{with_ends, from_view}
 use Rattle.nr_world.proofs.Writes.{up_none, up_some, down_none, down_some}
@@ -130,17 +130,17 @@ empty_pipe = record { waiting = []; kept = 0 }
 
 -- the terms of the first link of a client, with a number of its own and without
 pub numbered_client : (opening : Opening) (link : ℕ) → opening.numbered ≡ true → numbered_terms link opening.client_units opening.invalidates ≡ client_terms opening link
-numbered_client opening link numbered = λ i. record { units = opening.client_units; number = if sym numbered i then link else 0; invalidates = opening.invalidates }
+numbered_client opening link numbered = λ i. record { units = opening.client_units; number = cond (sym numbered i) link 0; invalidates = opening.invalidates }
 
 pub unnumbered_client : (opening : Opening) (link : ℕ) → (opening.numbered ≡ false) ⊎ (link ≡ 0) → terms_with opening.client_units opening.invalidates ≡ client_terms opening link
-unnumbered_client opening link (inl none) = λ i. record { units = opening.client_units; number = if sym none i then link else 0; invalidates = opening.invalidates }
+unnumbered_client opening link (inl none) = λ i. record { units = opening.client_units; number = cond (sym none i) link 0; invalidates = opening.invalidates }
 unnumbered_client opening link (inr zero_link) = λ i. record { units = opening.client_units; number = none i; invalidates = opening.invalidates }
   where
     both : (b : Bool) → 0 ≡ cond b link 0
     both true = sym zero_link
     both false = refl
 
-    none : 0 ≡ (if opening.numbered then link else 0)
+    none : 0 ≡ cond opening.numbered link 0
     none = both opening.numbered
 
 pub fresh_link : (number : ℕ) (opening : Opening) (client : RequesterSide) (server : ResponderSide) (up down : TransitState) (calls : List AwaitedCall) (held : List HeldCall) → client.state.side.ended ≡ None → up ≡ empty_pipe → down ≡ empty_pipe → calls ≡ [] → held ≡ [] →

@@ -72,6 +72,7 @@ due_first o link h run (earlier, k) = subst (λ (x : RequesterSide). DueFirst o 
 -- they are the outcomes that are due, of the messages that came
 pub kept_outcomes : (o : LinkParameters) (link : ℕ) (h : RequesterSide) (run : List Mark) → StandsForClient o link h run →
     map completed_of h.state.answered ≡ filter (λ (c : CompletedCall). is_due link run c.xid) (client o link run).state.outcomes
+unfolding client
 kept_outcomes o link h run (earlier, k) = ap (λ (answers : List AnsweredCall). map completed_of answers) (sym (all_answers h.state.answered)) ∙ k.answers.outcomes
 
 -- ---- The next link: no answer waits

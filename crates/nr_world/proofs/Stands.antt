@@ -1,7 +1,7 @@
 -- A step of one link is a step of the world.
 use Rattle.std.specs.Prelude.{OnOk, IfOk, slice_index_or, slice_set, ◌-◌}
 use Rattle.std.specs.List.{AllByRecursion, range_with_len}
-use Rattle.std.proofs.Common.{◌≡◌, ◌≢◌, ℕ, ◌+◌, ◌<◌, ◌≤◌, arith, List, ◌∷◌, length, map, Result, Ok, Err, Bool, true, false, eqb, eqb-true, get_or, set, refl, sym, ap, subst, ◌∙◌}
+use Rattle.std.proofs.Common.{◌≡◌, ◌≢◌, ℕ, ◌+◌, ◌<◌, ◌≤◌, arith, List, ◌∷◌, length, map, Result, Ok, Err, Bool, true, false, eqb, eqb-true, get_or, set, refl, sym, ap, subst, ◌∙◌, []}
 use Rattle.std.proofs.lemmas.List.{get_or-set_same, get_or-set_other, length-set}
 use Rattle.std.proofs.lemmas.Bool.{eq-eqb}
 use Rattle.nr_reduce.specs.declared.call.Call.{Call}

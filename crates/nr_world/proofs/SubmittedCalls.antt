@@ -38,11 +38,11 @@ own_client s link = eq-eqb (client_of s link) (client_of s link) refl
 
 -- a call line's answer is one of its client
 pub new_answer : (s : Setting) (link : ℕ) (call : Call) (form : Form) (answer : Submission) → is_sent_again s link answer ≡ false → answer_at s (client_of s link) (marks.Submit link call form answer) ≡ answer ∷ []
-new_answer s link call form answer new = λ i. if own_client s link i && not (new i) then answer ∷ [] else []
+new_answer s link call form answer new = λ i. cond (own_client s link i && not (new i)) (answer ∷ []) []
 
 -- and that of a call that is sent again is none
 again_answer : (s : Setting) (link : ℕ) (call : Call) (form : Form) (answer : Submission) → is_sent_again s link answer ≡ true → answer_at s (client_of s link) (marks.Submit link call form answer) ≡ []
-again_answer s link call form answer again = λ i. if own_client s link i && not (again i) then answer ∷ [] else []
+again_answer s link call form answer again = λ i. cond (own_client s link i && not (again i)) (answer ∷ []) []
 
 -- ---- The lines
 

@@ -163,14 +163,14 @@ CallsApart r = (xid : ℕ) → is_some (found_call xid r) ≡ true → found_ans
 
 contained : (ws : List WaitingCall) (w : AcceptedCall) → Contains (map as_waiting ws) w → list_any (λ (v : WaitingCall). eqb v.xid w.xid) ws ≡ true
 contained [] w (at, within, is) = absurd (omega (arith, within))
-contained (v ∷ ws) w c = by (Contains-append_cases (as_waiting v ∷ []) (map as_waiting ws) w c)
+contained (v ∷ ws) w c = by (λ later. contained ws w later) (Contains-append_cases (as_waiting v ∷ []) (map as_waiting ws) w c)
   where
     first : Contains (as_waiting v ∷ []) w → as_waiting v ≡ w
     first one = ⊎_elim (λ (none : Contains [] w). absurd (let within = none.1 in omega (arith, within))) (λ same. same) (Contains-push_cases [] (as_waiting v) w one)
 
-    by : Contains (as_waiting v ∷ []) w ⊎ Contains (map as_waiting ws) w → (eqb v.xid w.xid || list_any (λ (x : WaitingCall). eqb x.xid w.xid) ws) ≡ true
-    by (inl one) = or_left_lem (eqb v.xid w.xid) (list_any (λ (x : WaitingCall). eqb x.xid w.xid) ws) (eq-eqb v.xid w.xid (ap (λ (a : AcceptedCall). a.xid) (first one)))
-    by (inr later) = or_right_lem (eqb v.xid w.xid) (list_any (λ (x : WaitingCall). eqb x.xid w.xid) ws) (contained ws w later)
+    by : (Contains (map as_waiting ws) w → list_any (λ (x : WaitingCall). eqb x.xid w.xid) ws ≡ true) → Contains (as_waiting v ∷ []) w ⊎ Contains (map as_waiting ws) w → (eqb v.xid w.xid || list_any (λ (x : WaitingCall). eqb x.xid w.xid) ws) ≡ true
+    by rest (inl one) = or_left_lem (eqb v.xid w.xid) (list_any (λ (x : WaitingCall). eqb x.xid w.xid) ws) (eq-eqb v.xid w.xid (ap (λ (a : AcceptedCall). a.xid) (first one)))
+    by rest (inr later) = or_right_lem (eqb v.xid w.xid) (list_any (λ (x : WaitingCall). eqb x.xid w.xid) ws) (rest later)
 
 pub waits_unanswered : (o : LinkParameters) (link : ℕ) (h : RequesterSide) (run : List Mark) (w : AcceptedCall) → StandsForClient o link h run → CallsApart h.state → Contains (waiting_calls o link run) w → found_answer w.xid h.state ≡ None
 waits_unanswered o link h run w k apart there = apart w.xid (waits_outstanding o link h run w.xid k (contained (client o link run).state.waiting w there))

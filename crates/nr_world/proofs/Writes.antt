@@ -22,7 +22,7 @@ use Rattle.nr_world.specs.LinkStands.{LinkStands, StandsForClient}
 use Rattle.nr_world.specs.Steps.{Goes, StandsAt, ClientWrites, ServerWrites}
 use Rattle.nr_world.proofs.Ends.{requester_quiet, responder_quiet, represents_of}
 use Rattle.nr_world.proofs.Standing.{with_ends, IsPlain, EndsStand, other_pipes, plain_mark, replied_one}
-use Rattle.nr_world.proofs.Requesters.{others_leave}
+use Rattle.nr_world.proofs.Requesters.{others_leave, asks_on}
 use Rattle.nr_link.specs.declared.end.End.TheVariants as ends
 use Rattle.nr_reduce.specs.declared.mark.Mark.TheVariants as marks
 

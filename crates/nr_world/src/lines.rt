@@ -14,19 +14,18 @@ use nr_xdr::Memory;
 use std::alloc::Global;
 
 impl World {
-    /// Rounds, as long as something moves. Each makes a mark.
+    /// Rounds, as long as something moves. Each makes a mark, so memory runs out before their number does.
     fn drain(&mut self) -> Result<(), Memory>
         requires { CanMake lines.Drain self.old }
         ensures { OnOk result (MakesLine lines.Drain self.old self.new) }
     {
-        while !self.is_still() {
-            let before = self.marks.len();
-            self.round()?;
-            if self.marks.len() <= before {
-                return Err(Memory);
+        for _round in 0..u64::MAX {
+            if self.is_still() {
+                return Ok(());
             }
+            self.round()?;
         }
-        Ok(())
+        Err(Memory)
     }
 
     fn cred(&mut self, alloc: Global, client: u32, cred: &Cred) -> Result<(), Memory>

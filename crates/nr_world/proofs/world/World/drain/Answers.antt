@@ -1,22 +1,16 @@
-use Rattle.std.proofs.Common.{rules, ◌≡◌, ◌<◌, arith, length, true, false}
+use Rattle.std.proofs.Common.{rules, ◌≡◌, true, false}
 use Rattle.nr_world.proofs.LineSteps.{rounds_begin, rounds_on, rounds_end}
 use Rattle.nr_world.proofs.world.World.drain.Goals as goal
 
-pub loop-self-init : goal.loop-self-init
-loop-self-init c = rounds_begin c.args.self.now
+pub loop-round-init : goal.loop-round-init
+loop-round-init c = rounds_begin c.args.self.now
 
-pub loop-self-preserved : goal.loop-self-preserved
-loop-self-preserved c =
+pub loop-round-preserved : goal.loop-round-preserved
+loop-round-preserved c =
     let answer : c.is_still.result ≡ false = search rules in
-    rounds_on c.args.self.now c.loop-self.self c.round.new.self c.is_still.result answer c.loop-self.invariant c.is_still.ensures c.in_ok-round.ensures
+    rounds_on c.args.self.now c.loop-round.self c.round.new.self c.is_still.result answer c.loop-round.invariant c.is_still.ensures c.in_ok-round.ensures
 
-pub loop-self-smaller : goal.loop-self-smaller
-loop-self-smaller c =
-    let before = c.len-before.ensures in
-    let after = c.len.ensures in
-    omega (arith, before, after)
-
-pub returns : goal.returns
-returns c =
+pub returns-then-is_still : goal.returns-then-is_still
+returns-then-is_still c =
     let answer : c.is_still.result ≡ true = search rules in
-    rounds_end c.args.self.now c.loop-self.self c.is_still.result answer c.loop-self.invariant c.is_still.ensures
+    rounds_end c.args.self.now c.loop-round.self c.is_still.result answer c.loop-round.invariant c.is_still.ensures
