@@ -42,7 +42,7 @@ use Rattle.nr_drill.proofs.OpenCalls.{some_due}
 use Rattle.nr_world.specs.LinkStands.{StandsForClient, as_waiting, call_ids, due_calls, link_calls, waiting_calls}
 use Rattle.nr_world.specs.Steps.{MayLeave}
 use Rattle.nr_world.proofs.FreshLinks.{next_calls, resumed_call}
-use Rattle.nr_world.proofs.Requesters.{outcomes_are}
+use Rattle.nr_world.proofs.Requesters.{kept_outcomes}
 use Rattle.nr_reduce.specs.declared.call.Submission.TheVariants as submissions
 use Rattle.nr_reduce.specs.declared.mark.Mark.TheVariants as marks
 
@@ -459,4 +459,4 @@ module _ (o : LinkParameters) (link : ℕ) (run : List Mark) (m : MayLeave o lin
   outcomes_settled = none_left k.outcomes (all_not_due k.outcomes (λ c among. among) (outcomes_accepted o link run))
 
 pub no_answers : (o : LinkParameters) (link : ℕ) (h : RequesterSide) (run : List Mark) → MayLeave o link run → StandsForClient o link h run → h.state.answered ≡ []
-no_answers o link h run m stands = none_answered o link run m h.state.answered (outcomes_are o link h run stands ∙ outcomes_settled o link run m)
+no_answers o link h run m stands = none_answered o link run m h.state.answered (kept_outcomes o link h run stands ∙ outcomes_settled o link run m)
