@@ -21,7 +21,7 @@ from antt import ROOT
 from check_definitions import Recorded
 from check_drills import Drills
 from compare_scripts import PROGRAM, difference
-from random_drills import Maker
+from random_drills import Maker, opaque, words
 from run_scripts import compared
 from values import CannotEvaluate, Value, call, deeply
 
@@ -41,13 +41,13 @@ class Script(Maker):
     def __init__(self, seed: int, lines: int) -> None:
         r = self.rng = random.Random(seed)
         self.clients, self.credits = r.randint(1, 3), r.choice((1, 2, 4, 16, 64))
-        self.hostile = [c for c in range(1, self.clients + 1) if r.random() < 0.3]
-        self.creds, self.calls, self.numbers = {}, [], dict.fromkeys(range(1, self.clients + 1), 0)
+        self.numbers = dict.fromkeys(range(1, self.clients + 1), 0)
+        self.creds, self.calls, self.hostile = dict.fromkeys(self.numbers, b''), [], []
+        self.raws = [c for c in self.numbers if r.random() < 0.3]
         first = 'clients %d credits %d' % (self.clients, self.credits)
         first += ' capacity %d' % r.randint(0, 1200) if r.random() < 0.15 else ''
         first += ' sizes %d %d' % (r.randint(1, 16), r.randint(1, 16)) if r.random() < 0.2 else ''
         self.lines = [first + ' numbered' + r.choice(('', '', '', ' invalidate'))]
-        self.creds = dict.fromkeys(self.numbers, b'')
         self.lines += [self.line() for _ in range(r.randint(1, lines))]
         self.lines += ['drain'] * (r.random() < 0.7)
 
@@ -55,16 +55,26 @@ class Script(Maker):
         r = self.rng
         c = r.randint(1, self.clients)
         kind = r.choices(list(KINDS), KINDS.values())[0]
-        if kind == 'raw' and c in self.hostile:
+        if kind == 'raw' and c in self.raws:
             return 'raw %d %s %s' % (c, r.choice(('up', 'down')), self.raw().hex())
         if kind in ('forget', 'revoke') and self.numbers[c]:
             return '%s %d %d' % (kind, c, r.randint(1, self.numbers[c]))
         if kind in ('call', 'forget', 'revoke', 'raw'):
             self.numbers[c] += 1
-            return self.call(c)
+            return self.change(c) if r.random() < 0.5 else self.call(c)
         if kind in ('up', 'down'):
-            return '%s %d %d' % (kind, c, r.choice((1, 19, 92, 200, 1000, 4096, 4294967295, 4294967295)))
+            return '%s %d %d' % (kind, c, r.choice((1, 19, 92, 200, 1000, *[4294967295] * 5)))
         return {'grant': 'grant %d %d' % (c, r.randint(1, self.credits)), 'tick': 'tick %d' % r.randint(1, 9), 'drain': 'drain'}.get(kind, '%s %d' % (kind, c))
+
+    def change(self, c: int) -> str:
+        """A call that adds an entry if there is room: a WRITE of the file `hello`, or a CREATE."""
+        r = self.rng
+        form = r.choice(('auto', 'auto', 'inline', 'chunk', 'long'))
+        if r.random() < 0.5:
+            data = r.randbytes(r.choice((1, 5, 30)))
+            return self.call_line(c, form, 'nfs', 7, opaque((2).to_bytes(8, 'big')) + words(0, 0, len(data), r.randint(0, 2)) + opaque(data))
+        name = opaque(b'new%d' % r.randint(0, 9))
+        return self.call_line(c, form, 'nfs', 8, opaque((1).to_bytes(8, 'big')) + name + words(*[0] * 7))
 
 
 class Definitions:

@@ -1,8 +1,8 @@
 -- The calls that a client's next link is opened with are those of the link that are due: of the others the outcome came and was handed over, or they
 -- were given up. And no answer waits.
 use Rattle.std.specs.Prelude.{not, ◌||◌, ◌⊎◌}
-use Rattle.std.specs.List.{AllByRecursion, filter, find, flat_map, list_any}
-use Rattle.std.proofs.Common.{◌≡◌, ℕ, ◌+◌, ◌<◌, ◌≤◌, arith, Bool, true, false, cond, eqb, eqb-true, inl, inr, List, [], ◌∷◌, ◌++◌, map, Option, None, Some, refl, ap, sym, subst, ◌∙◌, append-nil, append_assoc}
+use Rattle.std.specs.List.{AllByRecursion, filter, flat_map, list_any}
+use Rattle.std.proofs.Common.{◌≡◌, ℕ, ◌+◌, ◌≤◌, arith, Bool, true, false, cond, eqb, eqb-true, inl, inr, List, [], ◌∷◌, ◌++◌, map, Option, None, Some, refl, ap, sym, subst, ◌∙◌, append-nil, append_assoc}
 use Rattle.std.proofs.lemmas.Bool.{eq-eqb}
 use Rattle.std.proofs.lemmas.List.{map-append}
 use Rattle.nr_reduce.specs.declared.call.Call.{Call}
@@ -10,7 +10,7 @@ use Rattle.nr_reduce.specs.declared.call.Form.{Form}
 use Rattle.nr_reduce.specs.declared.mark.LinkParameters.{LinkParameters}
 use Rattle.nr_reduce.specs.declared.mark.Mark.{Mark}
 use Rattle.nr_reduce.specs.declared.mark.ResumedCall.{ResumedCall}
-use Rattle.nr_reduce.specs.Asked.{AskedMark, AskedSoFar, IsAccepted, as_accepted}
+use Rattle.nr_reduce.specs.Asked.{AskedMark, IsAccepted, as_accepted}
 use Rattle.nr_reduce.specs.ClientState.{ClientState, OutstandingCall, WaitingCall}
 use Rattle.nr_reduce.specs.History.{AcceptedCall, CompletedCall, accepted_at, accepted_calls, is_abandoned}
 use Rattle.nr_reduce.specs.KeptCalls.{numbered_from}
@@ -25,8 +25,7 @@ use Rattle.nr_reduce.proofs.OutcomesApart.{calls_uncompleted}
 use Rattle.nr_reduce.proofs.Standing.{itself}
 use Rattle.nr_reduce.proofs.Waiting.{accepted_one}
 use Rattle.nr_reduce.proofs.XidsFollow.{xids_waiting}
-use Rattle.nr_laws.specs.MarkAt.{MarkAt}
-use Rattle.nr_laws.specs.Typed.{IsTyped, TypedMark}
+use Rattle.nr_laws.specs.Typed.{TypedMark}
 use Rattle.nr_laws.proofs.DistinctKeys.{or_left_lem, or_right_lem}
 use Rattle.nr_laws.proofs.OnceByXid.{at_mark, before_mark}
 use Rattle.nr_laws.proofs.OutstandingSubmits.{HasSubmit, outstanding_submitted}
@@ -39,7 +38,7 @@ use Rattle.nr_requester.proofs.DueAnswers.{Among, to_among}
 use Rattle.nr_requester.proofs.OpenTickets.{HasAccepted}
 use Rattle.nr_requester.proofs.OutcomesAccepted.{outcomes_accepted}
 use Rattle.nr_drill.proofs.OpenCalls.{some_due}
-use Rattle.nr_world.specs.LinkStands.{StandsForClient, as_waiting, call_ids, due_calls, link_calls, waiting_calls}
+use Rattle.nr_world.specs.LinkStands.{StandsForClient, as_waiting, call_ids, due_calls, waiting_calls}
 use Rattle.nr_world.specs.Steps.{MayLeave}
 use Rattle.nr_world.proofs.FreshLinks.{next_calls, resumed_call}
 use Rattle.nr_world.proofs.Requesters.{kept_outcomes}
