@@ -186,13 +186,11 @@ executes_code client now payload reply place start second before after seconds o
     subst (λ (kept : DrillServerState). ExecutesCall client now payload (record { second = second; place = place; reply = reply }) kept new) view
     (subst (λ (n : ℕ). ExecutesCall client now payload (record { second = n; place = place; reply = reply }) (record { server = before; seconds = seconds }) new) (sym at) (
       reply_bytes,
-      (
-        short,
-        λ setup T h.
-            (let a : AnswersFor setup T client (at_second now) payload reply place before after = answers setup T h.represents in
-            let own : List TaggedEntry = added_for setup T (record { client = client; moment = at_second now; payload = payload; reply = reply }) in
-            executed_call setup T client now payload reply place start (record { server = before; seconds = seconds }) new h bytes
-            (subst (λ (kept : PlainServerState). AnswersFor setup T client (at_second now) payload reply place before kept) (sym notes.0) a) (count setup (entries_alone T) h.represents.journal)
-            (notes.1 setup (entries_alone (T ++ own)) a.stands.journal)),
-      ),
+      short,
+      λ setup T h.
+          (let a : AnswersFor setup T client (at_second now) payload reply place before after = answers setup T h.represents in
+          let own : List TaggedEntry = added_for setup T (record { client = client; moment = at_second now; payload = payload; reply = reply }) in
+          executed_call setup T client now payload reply place start (record { server = before; seconds = seconds }) new h bytes
+          (subst (λ (kept : PlainServerState). AnswersFor setup T client (at_second now) payload reply place before kept) (sym notes.0) a) (count setup (entries_alone T) h.represents.journal)
+          (notes.1 setup (entries_alone (T ++ own)) a.stands.journal)),
     ))

@@ -2,13 +2,14 @@
 use Rattle.std.specs.Prelude.{◌-◌, is_some, slice_index_or, get_or}
 use Rattle.std.specs.List.{remove}
 use Rattle.std.proofs.Common.{◌≡◌, ℕ, ◌+◌, ◌<◌, ◌≤◌, arith, zero, suc, true, List, [], ◌∷◌, ◌++◌, length, map, take, drop, Option, None, Some, refl, ap, sym, ◌∙◌, append-nil, append_assoc}
-use Rattle.std.proofs.lemmas.List.{map-append}
+use Rattle.std.proofs.lemmas.List.{map-append, take_all, take_more}
 use Rattle.nr_link.specs.declared.end.End.{End}
 use Rattle.nr_reduce.specs.History.{AcceptedCall}
 use Rattle.nr_reduce.specs.declared.mark.Mark.{Mark}
+use Rattle.nr_world.specs.declared.awaited.AwaitedCall.{AwaitedCall}
 use Rattle.nr_world.specs.declared.awaited.HeldCall.{HeldCall}
 use Rattle.nr_world.specs.DrillLinkState.{DrillLinkState}
-use Rattle.nr_world.specs.Views.{held_view}
+use Rattle.nr_world.specs.Views.{call_view, held_view}
 use Rattle.nr_world.specs.private.Working.{NotesResends, again_mark, resends_in, resends_of}
 
 -- some of them, of the link before, where `waiting` are left in the end
@@ -85,3 +86,16 @@ noted_ended v run e = by v.client.state.side.ended refl e
 pub held_first : (held left : List HeldCall) (x : HeldCall) → 0 < length held → x ≡ get_or held 0 x → left ≡ remove held 0 → map held_view held ≡ held_view x ∷ map held_view left
 held_first [] left x lt at is = absurd (omega (arith, lt))
 held_first (h ∷ hs) left x lt at is = (λ i. held_view (sym at i) ∷ map held_view (sym is i))
+
+-- ---- Copies of the calls that are awaited
+
+pub held_more : (held more : List HeldCall) (awaited : List AwaitedCall) (at : ℕ) (x : AwaitedCall) → at < length awaited → x ≡ get_or awaited at x → map held_view held ≡ map call_view (take at awaited) →
+    map held_view more ≡ map held_view held ++ call_view x ∷ [] → map held_view more ≡ map call_view (take (at + 1) awaited)
+held_more held more awaited at x lt is so_far pushed =
+    let one : at + 1 ≡ suc at = omega arith in
+    let front : take (at + 1) awaited ≡ take at awaited ++ x ∷ [] =
+    ap (λ (k : ℕ). take k awaited) one ∙ take_more awaited at x lt ∙ ap (λ (y : AwaitedCall). take at awaited ++ y ∷ []) (sym is) in
+    pushed ∙ ap (λ (cs : List AcceptedCall). cs ++ call_view x ∷ []) so_far ∙ sym (map-append call_view (take at awaited) (x ∷ [])) ∙ sym (ap (λ (cs : List AwaitedCall). map call_view cs) front)
+
+pub held_all : (held : List HeldCall) (awaited : List AwaitedCall) (at : ℕ) → length awaited ≤ at → map held_view held ≡ map call_view (take at awaited) → map held_view held ≡ map call_view awaited
+held_all held awaited at le so_far = so_far ∙ ap (λ (cs : List AwaitedCall). map call_view cs) (take_all at awaited le)
