@@ -12,7 +12,8 @@ use Rattle.nr_reduce.specs.declared.mark.LinkParameters.{LinkParameters}
 use Rattle.nr_reduce.specs.declared.mark.Mark.{Mark}
 use Rattle.nr_reduce.specs.History.{is_dropped}
 use Rattle.nr_requester.specs.RequesterState.{RequesterSide, RequesterState, queue_of}
-use Rattle.nr_requester.specs.AfterCalls.{opened_as, numbered_terms}
+use Rattle.nr_requester.specs.AfterCalls.{after_drain, opened_as, numbered_terms}
+use Rattle.nr_requester.specs.ReopenedLinks.{KeepsOn}
 use Rattle.nr_responder.specs.ResponderState.{ResponderSide, may_write, end_of}
 use Rattle.nr_responder.specs.Draining.{Drains}
 use Rattle.nr_responder.specs.Standing.{ResponderRepresents}
