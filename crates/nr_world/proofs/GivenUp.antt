@@ -22,10 +22,10 @@ use Rattle.nr_world.specs.OpenTickets.{LinesOpen, IsTakenOut, TakesLine, calls_w
 use Rattle.nr_world.specs.Steps.{Goes, StandsAt}
 use Rattle.nr_world.proofs.Standing.{replied_one, from_view}
 use Rattle.nr_world.proofs.Writes.{server_stays, one_more_mark}
-use Rattle.nr_world.proofs.GivenLines.{line_answer, line_awaited, not_awaited}
+use Rattle.nr_world.proofs.GivenLines.{line_answer, line_awaited, not_awaited, left_without}
 use Rattle.nr_requester.specs.ReopenedLinks.{KeepsOn}
 use Rattle.nr_world.proofs.Requesters.{ended_as, revoked_are, asks_on}
-use Rattle.nr_world.proofs.SettledCalls.{SettlesOne, forget_settles, tracks_less}
+use Rattle.nr_world.proofs.SettledCalls.{SettlesOne, forget_settles, tracks_less, revoke_settles}
 use Rattle.nr_reduce.specs.declared.call.Submission.TheVariants as submissions
 use Rattle.nr_reduce.specs.declared.mark.Mark.TheVariants as marks
 

@@ -28,7 +28,7 @@ use Rattle.nr_world.proofs.OpenTickets.{less_open}
 use Rattle.nr_world.proofs.Standing.{replied_one}
 use Rattle.nr_world.proofs.Writes.{server_stays, one_more_mark}
 use Rattle.nr_world.specs.LinkStands.{line_ids}
-use Rattle.nr_world.proofs.SettledCalls.{done_settles}
+use Rattle.nr_world.proofs.SettledCalls.{done_settles, tracks_less, lines_without}
 use Rattle.nr_world.proofs.GivenLines.{call_taken}
 use Rattle.nr_world.proofs.Requesters.{asks_on}
 use Rattle.nr_link.specs.declared.end.End.TheVariants as ends
