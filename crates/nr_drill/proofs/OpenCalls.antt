@@ -443,7 +443,8 @@ flat_in {X = X} {A = A} f (y ∷ xs) x a h is = by (Contains-append_cases (y ∷
     by (inl first) rest = Contains-append_left (f y) (flat_map f xs) a (subst (λ (z : X). Contains (f z) a) (sym (one_in y x first)) is)
     by (inr later) rest = Contains-append_right (f y) (flat_map f xs) a (rest later)
 
-some_due : (o : LinkParameters) (link : ℕ) (run : List Mark) (xid : ℕ) → accepts (accepted_calls link run) xid ≡ true → list_any (λ (c : CompletedCall). eqb c.xid xid) (client o link run).state.outcomes ≡ true →
+-- an accepted call whose outcome came, and wasn't handed over, has it due unless it was given up
+pub some_due : (o : LinkParameters) (link : ℕ) (run : List Mark) (xid : ℕ) → accepts (accepted_calls link run) xid ≡ true → list_any (λ (c : CompletedCall). eqb c.xid xid) (client o link run).state.outcomes ≡ true →
     is_completed link xid run ≡ false → is_abandoned link xid run ≡ false → NoneDue o link run → ⊥
 unfolding outcomes_due
 some_due o link run xid accepted came first kept none =

@@ -44,3 +44,4 @@ pub mod RejoinSteps
 pub mod Answering
 pub mod NotedCalls
 pub mod WaitingAnswers
+pub mod KeptDue
