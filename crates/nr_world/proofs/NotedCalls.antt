@@ -96,9 +96,8 @@ held_first (h ∷ hs) left x lt at is = (λ i. held_view (sym at i) ∷ map held
 pub held_more : (held more : List HeldCall) (awaited : List AwaitedCall) (at : ℕ) (x : AwaitedCall) → at < length awaited → x ≡ get_or awaited at x → map held_view held ≡ map call_view (take at awaited) →
     map held_view more ≡ map held_view held ++ call_view x ∷ [] → map held_view more ≡ map call_view (take (at + 1) awaited)
 held_more held more awaited at x lt is so_far pushed =
-    let one : at + 1 ≡ suc at = omega arith in
     let front : take (at + 1) awaited ≡ take at awaited ++ x ∷ [] =
-    ap (λ (k : ℕ). take k awaited) one ∙ take_more awaited at x lt ∙ ap (λ (y : AwaitedCall). take at awaited ++ y ∷ []) (sym is) in
+    take_more awaited at x lt ∙ ap (λ (y : AwaitedCall). take at awaited ++ y ∷ []) (sym is) in
     pushed ∙ ap (λ (cs : List AcceptedCall). cs ++ call_view x ∷ []) so_far ∙ sym (map-append call_view (take at awaited) (x ∷ [])) ∙ sym (ap (λ (cs : List AwaitedCall). map call_view cs) front)
 
 pub held_all : (held : List HeldCall) (awaited : List AwaitedCall) (at : ℕ) → length awaited ≤ at → map held_view held ≡ map call_view (take at awaited) → map held_view held ≡ map call_view awaited

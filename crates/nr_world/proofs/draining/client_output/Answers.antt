@@ -7,5 +7,5 @@ pub returns-in-Ok-clause-writes : goal.returns-in-Ok-clause-writes
 returns-in-Ok-clause-writes c =
     let taken = c.in-Ok.ensures.taken in
     if_ok c.from_slice.result _ _
-    (λ bytes is. client_writes _ _ _ _ bytes taken.0 taken.1.1.0 taken.1.1.1.0 taken.1.1.1.1.1.1.0 taken.1.1.1.1.1.1.1 (ap (λ (s : MemSinkState). s.bytes) c.new-sink.ensures) (is ∙ c.bytes.ensures))
+    (λ bytes is. client_writes _ _ _ _ bytes taken.0 taken.2 taken.3 taken.6 taken.7 (ap (λ (s : MemSinkState). s.bytes) c.new-sink.ensures) (is ∙ c.bytes.ensures))
     c.from_slice.ensures

@@ -1,4 +1,4 @@
-use Rattle.std.proofs.Common.{◌∙◌, map, ap, sym}
+use Rattle.std.proofs.Common.{◌∙◌, map, refl, ap}
 use Rattle.nr_world.specs.DrillLinkState.{DrillLinkState}
 use Rattle.nr_world.specs.Views.{held_view, link_view}
 use Rattle.nr_world.proofs.GivenUp.{none_of, some_of}
@@ -10,6 +10,9 @@ pub returns-then-is_some : goal.returns-then-is_some
 returns-then-is_some c =
     noted_ended c.args.self.now c.args.marks.now
     (some_of c.args.self.now.client.state.side.ended c.end.result c.is_some.result (c.end.ensures ∙ ap (λ (v : DrillLinkState). v.client.state.side.ended) c.self.view_is) c.is_some.ensures c.if-is_some.true)
+
+pub same-self : goal.same-self
+same-self c = refl
 
 pub invariant_of-self : goal.invariant_of-self
 invariant_of-self c = c.self.invariant
