@@ -1,5 +1,5 @@
 use Rattle.std.specs.Prelude.{is_err}
-use Rattle.std.proofs.Common.{◌≡◌, ◌≤◌, ◌∙◌, ℕ, List, length, false, refl, sym, ap, subst}
+use Rattle.std.proofs.Common.{◌≡◌, ◌≤◌, ◌∙◌, ℕ, List, length, false, sym, ap, subst}
 use Rattle.nr_responder.specs.HeldBytes.{sent_reply_max}
 use Rattle.nr_responder.specs.ResponderState.{ResponderSide, end_of}
 use Rattle.nr_responder.specs.Sound.{IsNext}
@@ -16,9 +16,6 @@ answer-requires-clause-next c = subst (λ (v : ResponderSide). IsNext v c.args.c
 
 pub answer-requires-clause-short : goal.answer-requires-clause-short
 answer-requires-clause-short c = subst (λ (xs : List ℕ). length xs ≤ sent_reply_max) (sym c.as_slice.ensures) c.requires.short
-
-pub same-self : goal.same-self
-same-self c = refl
 
 pub invariant_of-self : goal.invariant_of-self
 invariant_of-self c = server_fed_same _ c.self.inside.server.side.link c.answer.new.self.side.link _ c.answer.ensures.fed c.self.invariant
