@@ -141,7 +141,7 @@ impl World {
         requires { IsClient (length self.old.links.items) client }
         ensures { OnOk result (BeginsLink client self.old self.new) }
     {
-        if self.owners.len() >= LINKS_MAX {
+        if client > LINKS_MAX || self.owners.len() >= LINKS_MAX {
             return Err(Memory);
         }
         self.owners.push(client as u32)?;
