@@ -49,11 +49,11 @@ pub of_err : {T E : Type 0} (r : Result T E) (P : Type 0) → is_err r ≡ true 
 of_err (Ok x) P e h = absurd cc
 of_err (Err x) P e h = h
 
-pub of_some : {T : Type 0} (o : Option T) (x : T) (P : Type 0) (F : T → Type 0) → o ≡ Some x → MatchOption o P F → F x
-of_some o x P F is h = subst (λ (y : Option T). MatchOption y P F) is h
+pub of_some : (o : Option Execution) (x : Execution) (P : Type 0) (F : Execution → Type 0) → o ≡ Some x → MatchOption o P F → F x
+of_some o x P F is h = subst (λ (e : Option Execution). MatchOption e P F) is h
 
-pub of_none : {T : Type 0} (o : Option T) (P : Type 0) (F : T → Type 0) → o ≡ None → MatchOption o P F → P
-of_none o P F is h = subst (λ (y : Option T). MatchOption y P F) is h
+pub of_none : (o : Option Execution) (P : Type 0) (F : Execution → Type 0) → o ≡ None → MatchOption o P F → P
+of_none o P F is h = subst (λ (e : Option Execution). MatchOption e P F) is h
 
 pub next_some : (v : ResponderSide) (xid : ℕ) → IsNext v xid → v.ready ≢ []
 next_some v xid next none = absurd (let no = ap (λ (xs : List ℕ). slice_get xs 0) (sym none) ∙ next in cc)

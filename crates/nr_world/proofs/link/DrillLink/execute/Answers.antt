@@ -51,3 +51,15 @@ returns-in-None c =
     (λ told. old_code c.args.seconds _ c.args.self.now c.tell_old.new.self c.args.marks.now c.tell_old.new.marks c.args.server.now c.execute.new.self c.args.call c.client-client.result _ _ _ c.self.view_is
     c.requires.standing c.payload.ensures.exact c.in-Ok.ensures c.as_slice.ensures (heard_client _ c.args.call c.client-client.result live next c.client-client.ensures.of_run c.client-client.ensures.heard) (of_none c.in-Ok-execute.executed _ _ c.in-None.is c.in-Ok-execute.ensures) told)
     c.tell_old.ensures
+
+pub same-self-in-Err : goal.same-self-in-Err
+same-self-in-Err c = refl
+
+pub same-self-in-Some : goal.same-self-in-Some
+same-self-in-Some c = refl
+
+pub same-payload : goal.same-payload
+same-payload c = refl
+
+pub same-self-in-None : goal.same-self-in-None
+same-self-in-None c = refl

@@ -66,3 +66,12 @@ returns c =
       link_is = c.begin.ensures ∙ (λ i. begun_link (record (c.self.view_is i) { client = c.reopen.new.self }) c.args.number c.in-Ok.server.side (held i));
     }))
     c.exchange.ensures
+
+pub same-self-in-Err : goal.same-self-in-Err
+same-self-in-Err c = refl
+
+pub same-self-in-Err-held_calls : goal.same-self-in-Err-held_calls
+same-self-in-Err-held_calls c = refl
+
+pub same-server : goal.same-server
+same-server c = refl
