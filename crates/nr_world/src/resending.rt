@@ -14,11 +14,7 @@ use nr_xdr::Memory;
 use std::alloc::Global;
 
 /// Adds a copy of a call that is awaited to those that wait to be sent again.
-fn push_held(
-    alloc: Global,
-    held: &mut Vec<HeldCall>,
-    awaited: &AwaitedCall,
-) -> Result<(), Memory>
+fn push_held(alloc: Global, held: &mut Vec<HeldCall>, awaited: &AwaitedCall) -> Result<(), Memory>
     ensures { OnOk result (map held_view held.new.items ≡ map held_view held.old.items ++ call_view awaited.now ∷ []) }
 {
     let xid = awaited.ticket.xid();

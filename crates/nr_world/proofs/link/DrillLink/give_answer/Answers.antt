@@ -1,5 +1,5 @@
 use Rattle.std.specs.Prelude.{is_err}
-use Rattle.std.proofs.Common.{◌≡◌, ◌≤◌, ◌∙◌, ℕ, List, length, false, sym, ap, subst}
+use Rattle.std.proofs.Common.{◌≡◌, ◌≤◌, ◌∙◌, ℕ, List, length, false, refl, sym, ap, subst}
 use Rattle.nr_responder.specs.HeldBytes.{sent_reply_max}
 use Rattle.nr_responder.specs.ResponderState.{ResponderSide, end_of}
 use Rattle.nr_responder.specs.Sound.{IsNext}
@@ -19,6 +19,15 @@ answer-requires-clause-short c = subst (λ (xs : List ℕ). length xs ≤ sent_r
 
 pub invariant_of-self : goal.invariant_of-self
 invariant_of-self c = server_fed_same _ c.self.inside.server.side.link c.answer.new.self.side.link _ c.answer.ensures.fed c.self.invariant
+
+pub same-payload : goal.same-payload
+same-payload c = refl
+
+pub same-reply : goal.same-reply
+same-reply c = refl
+
+pub invariant_of-self-2 : goal.invariant_of-self-2
+invariant_of-self-2 c = server_fed_same _ c.self.inside.server.side.link c.answer.new.self.side.link _ c.answer.ensures.fed c.self.invariant
 
 pub returns : goal.returns
 returns c =

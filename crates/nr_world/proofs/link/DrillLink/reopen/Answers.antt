@@ -1,13 +1,17 @@
 use Rattle.std.specs.Prelude.{is_err}
-use Rattle.std.proofs.Common.{◌≡◌, ◌∙◌, arith, false, List, map, refl, ap, sym, subst}
+use Rattle.std.proofs.Common.{◌≡◌, ◌∙◌, arith, true, false, List, map, refl, ap, sym, subst}
+use Rattle.nr_requester.specs.Fed.{fed_bytes}
+use Rattle.nr_requester.specs.OpenCalls.{open_call}
 use Rattle.nr_requester.specs.Reopening.{ReopenStands}
+use Rattle.nr_requester.specs.RequesterState.{RequesterSide}
 use Rattle.nr_world.specs.declared.awaited.AwaitedCall.{AwaitedCall}
 use Rattle.nr_world.specs.DrillLinkState.{DrillLinkState}
 use Rattle.nr_world.specs.Views.{call_view, held_view}
 use Rattle.nr_world.specs.private.Working.{begun_link}
-use Rattle.nr_world.proofs.Answering.{of_ok}
+use Rattle.nr_world.proofs.Answering.{of_err, of_ok}
 use Rattle.nr_world.proofs.NextLinks.{reopened_live, reopens}
 use Rattle.nr_world.proofs.OpenTickets.{kept_open}
+use Rattle.nr_world.proofs.Outputs.{client_kept}
 use Rattle.nr_world.proofs.Standing.{on_ok}
 use Rattle.nr_world.proofs.link.DrillLink.reopen.Goals as goal
 
@@ -16,6 +20,13 @@ reopen-requires c = omega (arith, c.client.ensures, c.if-client-eq0.false)
 
 pub invariant_of-self : goal.invariant_of-self
 invariant_of-self c =
+    let failed : is_err c.reopen.result ≡ true = sym c.is_err.ensures.value ∙ c.if-is_err.true in
+    let same : c.reopen.new.self ≡ c.self.inside.client = of_err c.reopen.result _ failed c.reopen.ensures.err in
+    client_kept _ _ _ c.self.inside.client c.reopen.new.self c.self.inside.fed_down c.self.inside.awaited.items (ap (λ (h : RequesterSide). fed_bytes h) same) (λ xid. ap (λ (h : RequesterSide). open_call xid h.state) same)
+    c.self.invariant
+
+pub invariant_of-self-2 : goal.invariant_of-self-2
+invariant_of-self-2 c =
     let ok : is_err c.reopen.result ≡ false = sym c.is_err.ensures.value ∙ c.if-is_err.false in (
       c.self.invariant.0,
       (
@@ -55,3 +66,12 @@ returns c =
       link_is = c.begin.ensures ∙ (λ i. begun_link (record (c.self.view_is i) { client = c.reopen.new.self }) c.args.number c.in-Ok.server.side (held i));
     }))
     c.exchange.ensures
+
+pub same-self-in-Err : goal.same-self-in-Err
+same-self-in-Err c = refl
+
+pub same-self-in-Err-held_calls : goal.same-self-in-Err-held_calls
+same-self-in-Err-held_calls c = refl
+
+pub same-server : goal.same-server
+same-server c = refl

@@ -1,4 +1,4 @@
-use Rattle.std.proofs.Common.{◌∙◌, sym, ap, subst}
+use Rattle.std.proofs.Common.{◌∙◌, refl, sym, ap, subst}
 use Rattle.nr_responder.specs.ResponderState.{ResponderSide, end_of}
 use Rattle.nr_responder.specs.Sound.{IsNext}
 use Rattle.nr_world.specs.DrillLinkState.{DrillLinkState}
@@ -12,8 +12,14 @@ stop-requires-clause-live c = ap (λ (v : DrillLinkState). end_of v.server) c.se
 pub stop-requires-clause-next : goal.stop-requires-clause-next
 stop-requires-clause-next c = next_some c.self.inside.server.side c.args.call (subst (λ (v : ResponderSide). IsNext v c.args.call) (sym (ap (λ (v : DrillLinkState). v.server) c.self.view_is)) c.requires.next)
 
+pub stop-requires-clause-reason : goal.stop-requires-clause-reason
+stop-requires-clause-reason c = refl
+
 pub invariant_of-self : goal.invariant_of-self
 invariant_of-self c = told_fed _ c.self.inside.server.side.link c.stop.new.self.side.link _ c.stop.ensures.within c.self.invariant
+
+pub invariant_of-self-2 : goal.invariant_of-self-2
+invariant_of-self-2 c = told_fed _ c.self.inside.server.side.link c.stop.new.self.side.link _ c.stop.ensures.within c.self.invariant
 
 pub returns : goal.returns
 returns c = on_ok c.add_mark.result _ _
