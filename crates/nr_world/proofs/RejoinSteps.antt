@@ -62,23 +62,23 @@ rejoin_ended c w v end e is reads ended tree opening d h may =
     (d, sym same, h)
 
 -- the link is dropped already
-pub rejoin_dropped : (c : ℕ) (w n : World) (v : DrillLinkState) (end : Option End) (dropped : Bool) → v ≡ slice_index_or w.links.items (c - 1) v → IsClient (length w.links.items) c → ReadsEnd v end → end ≡ None → ReadsDropped v dropped →
+pub rejoin_dropped : (c : ℕ) (w n : World) (v u : DrillLinkState) (end : Option End) (dropped : Bool) → v ≡ slice_index_or w.links.items (c - 1) v → u ≡ slice_index_or w.links.items (c - 1) u → IsClient (length w.links.items) c → ReadsEnd v end → end ≡ None → ReadsDropped u dropped →
     dropped ≡ true → BeginsLink c w n → MakesLine (lines.Rejoin c) w n
-rejoin_dropped c w n v end dropped e is reads live reads_dropped gone begins tree opening d h may =
+rejoin_dropped c w n v u end dropped e f is reads live reads_dropped gone begins tree opening d h may =
     let s : Setting = drill_setting tree opening in
     let link : ℕ = last_link c d in
     let none : EndOf s c d ≡ None = sym (end_read tree opening d c w v end e is reads h) ∙ live in
-    let there : is_dropped link d.marks ≡ true = dropped_read tree opening d c w v dropped e is reads_dropped h ∙ gone in
+    let there : is_dropped link d.marks ≡ true = dropped_read tree opening d c w u dropped f is reads_dropped h ∙ gone in
     let leave : MayLeave ((setting_now s d).opened link) link d.marks = subst (λ (b : Bool). MayLeave ((setting_now s d).opened link) link (after_drop_if b link d).marks) there (may h.opened.replies none) in
     (after_leaving s c link d, sym (leaves_if s c d true none there), begins tree opening d h leave)
 
 -- the link is dropped first
-pub rejoin_drops : (c : ℕ) (w m n : World) (v : DrillLinkState) (end : Option End) (dropped : Bool) → v ≡ slice_index_or w.links.items (c - 1) v → IsClient (length w.links.items) c → ReadsEnd v end → end ≡ None → ReadsDropped v dropped →
+pub rejoin_drops : (c : ℕ) (w m n : World) (v u : DrillLinkState) (end : Option End) (dropped : Bool) → v ≡ slice_index_or w.links.items (c - 1) v → u ≡ slice_index_or w.links.items (c - 1) u → IsClient (length w.links.items) c → ReadsEnd v end → end ≡ None → ReadsDropped u dropped →
     dropped ≡ false → Steps (λ s d. after_drop (last_link c d) d) w m → BeginsLink c m n → MakesLine (lines.Rejoin c) w n
-rejoin_drops c w m n v end dropped e is reads live reads_dropped stands drops begins tree opening d h may =
+rejoin_drops c w m n v u end dropped e f is reads live reads_dropped stands drops begins tree opening d h may =
     let s : Setting = drill_setting tree opening in
     let link : ℕ = last_link c d in
     let none : EndOf s c d ≡ None = sym (end_read tree opening d c w v end e is reads h) ∙ live in
-    let there : is_dropped link d.marks ≡ false = dropped_read tree opening d c w v dropped e is reads_dropped h ∙ stands in
+    let there : is_dropped link d.marks ≡ false = dropped_read tree opening d c w u dropped f is reads_dropped h ∙ stands in
     let leave : MayLeave ((setting_now s d).opened link) link (after_drop link d).marks = subst (λ (b : Bool). MayLeave ((setting_now s d).opened link) link (after_drop_if b link d).marks) there (may h.opened.replies none) in
     (after_leaving s c link (after_drop link d), sym (leaves_if s c d false none there), begins tree opening (after_drop link d) (drops tree opening d h) leave)

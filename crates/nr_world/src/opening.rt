@@ -51,7 +51,7 @@ fn push_creds(creds: &mut Vec<Cred>, clients: u32) -> Result<(), Memory>
 
 impl World {
     fn start(alloc: Global, opening: Opening) -> Result<World, Memory>
-        requires capacity { opening.capacity ≤ capacity_max }
+        requires { opening.capacity ≤ capacity_max }
         ensures { IfOk result (IsStarted opening) }
     {
         let mut creds = Vec::new(alloc);
@@ -77,11 +77,8 @@ impl World {
     fn push_link(&mut self, alloc: Global, client: u32) -> Result<(), Memory>
         ensures { OnOk result (OpensLink client self.old self.new) }
     {
+        self.owners.push(client)?;
         let link = DrillLink::open(alloc, &mut self.marks, client, self.opening)?;
-        if self.owners.push(client).is_err() {
-            drop(link);
-            return Err(Memory);
-        }
         match self.links.push(link) {
             Ok(()) => Ok(()),
             Err(failed) => {
@@ -102,7 +99,7 @@ impl World {
 
     /// The world of a drill whose links are open.
     pub(crate) fn open(alloc: Global, opening: Opening) -> Result<World, Memory>
-        requires capacity { opening.capacity ≤ capacity_max }
+        requires { opening.capacity ≤ capacity_max }
         ensures { IfOk result (HasOpenLinks opening) }
     {
         let mut world = World::start(alloc, opening)?;

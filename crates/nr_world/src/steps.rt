@@ -123,7 +123,7 @@ impl World {
 
     /// The client drops its link, if that stands still, and begins the next one; nothing if it has ended.
     pub(crate) fn rejoin(&mut self, client: usize) -> Result<(), Memory>
-        requires client { IsClient (length self.old.links.items) client }
+        requires { IsClient (length self.old.links.items) client }
         ensures { OnOk result (MakesLine (lines.Rejoin client) self.old self.new) }
     {
         if self.links[client - 1].client_end().is_some() {
@@ -138,7 +138,7 @@ impl World {
 
     /// The client begins its next link.
     fn begin_link(&mut self, client: usize) -> Result<(), Memory>
-        requires client { IsClient (length self.old.links.items) client }
+        requires { IsClient (length self.old.links.items) client }
         ensures { OnOk result (BeginsLink client self.old self.new) }
     {
         if self.owners.len() >= LINKS_MAX {

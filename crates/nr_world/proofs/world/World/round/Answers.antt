@@ -1,9 +1,11 @@
-use Rattle.std.proofs.Common.{◌<◌, arith, length, ◌∙◌}
+use Rattle.std.proofs.Common.{◌≡◌, ◌<◌, arith, length, ◌∙◌}
 use Rattle.nr_world.proofs.Rounds.{round_begin, round_on, round_end}
 use Rattle.nr_world.proofs.world.World.round.Goals as goal
 
 pub loop-at-init : goal.loop-at-init
-loop-at-init c = (c.len-at-end.ensures, round_begin c.args.self.now)
+loop-at-init c =
+    let count : length c.args.self.now.links.items ≡ c.len-at-end.result = omega (arith, c.len-at-end.ensures) in
+    (count, round_begin c.args.self.now)
 
 pub loop-at-preserved : goal.loop-at-preserved
 loop-at-preserved c =
