@@ -1,6 +1,6 @@
 -- What the code made of a call: it answered it, or ended the server since the call is old.
-use Rattle.std.specs.Prelude.{slice_get, is_err, IfOk, OnOk, Result, Ok, Err}
-use Rattle.std.proofs.Common.{◌≡◌, ◌≢◌, ℕ, ◌≤◌, arith, false, List, [], ◌∷◌, ◌++◌, None, Some, refl, ap, sym, subst, ◌∙◌}
+use Rattle.std.specs.Prelude.{slice_get, is_err, IfOk, OnOk, OnErr, MatchOption, Result, Ok, Err}
+use Rattle.std.proofs.Common.{◌≡◌, ◌≢◌, ℕ, ◌≤◌, arith, true, false, List, [], ◌∷◌, ◌++◌, Option, None, Some, refl, ap, sym, subst, ◌∙◌}
 use Rattle.nr_outside.specs.declared.moment.Moment.{Moment}
 use Rattle.nr_link.specs.declared.end.End.{End}
 use Rattle.nr_endpoint.specs.FedBytes.{fed_bytes}
@@ -44,6 +44,16 @@ of_ok (Err x) P e h = absurd cc
 pub of_if_ok : {T E : Type 0} (r : Result T E) (F : T → Type 0) → is_err r ≡ false → IfOk r F → (x : T) × F x
 of_if_ok (Ok x) F e h = (x, h)
 of_if_ok (Err x) F e h = absurd cc
+
+pub of_err : {T E : Type 0} (r : Result T E) (P : Type 0) → is_err r ≡ true → OnErr r P → P
+of_err (Ok x) P e h = absurd cc
+of_err (Err x) P e h = h
+
+pub of_some : (o : Option Execution) (x : Execution) (P : Type 0) (F : Execution → Type 0) → o ≡ Some x → MatchOption o P F → F x
+of_some o x P F is h = subst (λ (e : Option Execution). MatchOption e P F) is h
+
+pub of_none : (o : Option Execution) (P : Type 0) (F : Execution → Type 0) → o ≡ None → MatchOption o P F → P
+of_none o P F is h = subst (λ (e : Option Execution). MatchOption e P F) is h
 
 pub next_some : (v : ResponderSide) (xid : ℕ) → IsNext v xid → v.ready ≢ []
 next_some v xid next none = absurd (let no = ap (λ (xs : List ℕ). slice_get xs 0) (sym none) ∙ next in cc)

@@ -10,7 +10,7 @@ use Rattle.nr_reduce.specs.Run.{client}
 use Rattle.nr_reduce.specs.declared.mark.LinkParameters.{LinkParameters}
 use Rattle.nr_reduce.specs.declared.mark.Mark.{Mark}
 use Rattle.nr_requester.specs.RequesterState.{RequesterSide}
-use Rattle.nr_requester.specs.Reopening.{ReopenStands}
+use Rattle.nr_requester.specs.Reopening.{ReopenStands, after_reopen}
 use Rattle.nr_responder.specs.ResponderState.{ResponderSide, end_of}
 use Rattle.nr_responder.specs.Standing.{RepresentsServer, ResponderRepresents}
 use Rattle.nr_texts.specs.declared.opening.Opening.{Opening}
@@ -158,3 +158,8 @@ reopens number opening v v2 v3 asks serves run run3 b goes s t link d e m x so a
   marks = at.marks ∙ sym x.marks;
   replies = at.replies;
 })
+
+-- a client that was reopened is alive
+pub reopened_live : (before asks : RequesterSide) (staging : List ℕ) → asks ≡ after_reopen before staging → asks.state.side.ended ≡ None
+unfolding after_reopen
+reopened_live before asks staging is = ap (λ (h : RequesterSide). h.state.side.ended) is

@@ -2,6 +2,7 @@
 use Rattle.std.specs.Prelude.{◌↔◌, Result, Ok, Err, IfOk, IsTrue}
 use Rattle.std.proofs.Common.{◌≡◌, ◌≢◌, ℕ, ◌≤◌, Bool, true, false, List, [], ◌∷◌, ◌++◌, length, map, take, None, Some, refl, ap, sym, subst, ◌∙◌, cond, ◌⊎◌, inl, inr}
 use Rattle.std.proofs.Math.Seq.{take-length}
+use Rattle.std.specs.Io.KnownBytes.{Appends}
 use Rattle.nr_wire.specs.declared.hello.Side.{Side}
 use Rattle.nr_wire.specs.declared.hello.Side.TheVariants.{Initiator, Responder}
 use Rattle.nr_link.specs.declared.agreement.SideTerms.{SideTerms}
@@ -10,8 +11,9 @@ use Rattle.nr_reduce.specs.Opening.{ClientOpened, ServerOpened}
 use Rattle.nr_reduce.specs.declared.mark.LinkParameters.{LinkParameters}
 use Rattle.nr_reduce.specs.declared.mark.Mark.{Mark}
 use Rattle.nr_reduce.specs.History.{is_dropped}
-use Rattle.nr_requester.specs.RequesterState.{RequesterSide, RequesterState}
-use Rattle.nr_requester.specs.AfterCalls.{opened_as, numbered_terms}
+use Rattle.nr_requester.specs.RequesterState.{RequesterSide, RequesterState, queue_of}
+use Rattle.nr_requester.specs.AfterCalls.{after_drain, opened_as, numbered_terms}
+use Rattle.nr_requester.specs.ReopenedLinks.{KeepsOn}
 use Rattle.nr_responder.specs.ResponderState.{ResponderSide, may_write, end_of}
 use Rattle.nr_responder.specs.Draining.{Drains}
 use Rattle.nr_responder.specs.Standing.{ResponderRepresents}
@@ -66,6 +68,17 @@ server_writes before after first out bytes n d all none is =
       state = d.state;
       all = taken ∙ ap (λ (k : ℕ). take k (may_write before)) all ∙ take-length (may_write before);
       stands = λ opened link run h. subst (λ (xs : List ℕ). ResponderRepresents opened link (run ++ marks.Wrote link Responder xs ∷ []) after) (sym taken) (d.stands opened link run h);
+    }
+
+pub client_writes : (before after : RequesterSide) (first out bytes : List ℕ) (n : ℕ) → Appends (Some first) (Some out) (take n (queue_of before.state)) → after ≡ after_drain n before → n ≡ length (queue_of before.state) →
+    KeepsOn before (λ link. marks.Wrote link Initiator (take n (queue_of before.state))) after → first ≡ [] → bytes ≡ out → ClientWrites before after bytes
+client_writes before after first out bytes n appends state all keeps none is =
+    let taken : bytes ≡ take n (queue_of before.state) = is ∙ appends ∙ ap (λ (xs : List ℕ). xs ++ take n (queue_of before.state)) none in
+    record {
+      n = n;
+      state = state;
+      all = taken ∙ ap (λ (k : ℕ). take k (queue_of before.state)) all ∙ take-length (queue_of before.state);
+      stands = subst (λ (xs : List ℕ). KeepsOn before (λ link. marks.Wrote link Initiator xs) after) (sym taken) keeps;
     }
 
 pub wrote_no_bytes_up : (v v0 : DrillLinkState) (client : RequesterSide) (bytes : List ℕ) (run : List Mark) → v ≡ v0 → ClientWrites v.client client bytes → bytes ≡ [] →

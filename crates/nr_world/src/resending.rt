@@ -2,7 +2,7 @@
 
 ghost use Rattle.std.specs.Prelude.{◌≡◌, [], ◌∷◌, ◌++◌, map, IfOk, OnOk};
 ghost use Rattle.nr_world.specs.Views.{call_view, held_view};
-ghost use Rattle.nr_world.specs.private.Working.{NotesResends};
+ghost use Rattle.nr_world.specs.private.Working.{NotesFirst, NotesResends};
 
 use crate::awaited::{AwaitedCall, HeldCall};
 use crate::copying::{copy_call, copy_form};
@@ -14,11 +14,7 @@ use nr_xdr::Memory;
 use std::alloc::Global;
 
 /// Adds a copy of a call that is awaited to those that wait to be sent again.
-fn push_held(
-    alloc: Global,
-    held: &mut Vec<HeldCall>,
-    awaited: &AwaitedCall,
-) -> Result<(), Memory>
+fn push_held(alloc: Global, held: &mut Vec<HeldCall>, awaited: &AwaitedCall) -> Result<(), Memory>
     ensures { OnOk result (map held_view held.new.items ≡ map held_view held.old.items ++ call_view awaited.now ∷ []) }
 {
     let xid = awaited.ticket.xid();
@@ -49,6 +45,24 @@ pub(crate) fn held_calls(alloc: Global, awaited: &[AwaitedCall]) -> Result<Vec<H
     Ok(held)
 }
 
+/// Adds a mark for each of the first calls, until this many wait, and lets the calls go.
+fn add_resends(
+    alloc: Global,
+    marks: &mut MarkLog,
+    link: u32,
+    held: &mut Vec<HeldCall>,
+    waiting: usize,
+) -> Result<(), Memory>
+    ensures { OnOk result (NotesFirst link waiting (map held_view held.old.items) (map held_view held.new.items) marks.old marks.new) }
+{
+    'calls: while held.len() > waiting {
+        let HeldCall { xid, call, form } = held.remove(0);
+        let answer = Submission::Accepted { xid };
+        add_submit(alloc, marks, link, call, form, answer)?;
+    }
+    Ok(())
+}
+
 impl DrillLink {
     /// Adds the marks of the calls that the client sent again: the first ones, up to those that wait still.
     #[tactic(none)]
@@ -59,14 +73,6 @@ impl DrillLink {
             return Ok(());
         }
         let waiting = self.client.waiting();
-        'calls: while self.held.len() > waiting {
-            let HeldCall { xid, call, form } = self.held.remove(0);
-            let answer = Submission::Accepted { xid };
-            match add_submit(self.alloc, marks, self.number, call, form, answer) {
-                Ok(()) => {}
-                Err(memory) => return Err(memory),
-            }
-        }
-        Ok(())
+        add_resends(self.alloc, marks, self.number, &mut self.held, waiting)
     }
 }

@@ -93,10 +93,13 @@ impl DrillLink {
             return Err(Memory);
         };
         let client = self.server.client();
-        match server.execute(self.alloc, client, seconds, payload.as_slice()) {
-            Ok(Some(execution)) => self.give_answer(marks, call, payload, execution),
-            Ok(None) => self.tell_old(marks, call),
-            Err(memory) => Err(memory),
+        let executed = match server.execute(self.alloc, client, seconds, payload.as_slice()) {
+            Ok(executed) => executed,
+            Err(memory) => return Err(memory),
+        };
+        match executed {
+            Some(execution) => self.give_answer(marks, call, payload, execution),
+            None => self.tell_old(marks, call),
         }
     }
 

@@ -55,6 +55,11 @@ resends_of None waited waiting = waited - waiting
 abbrev pub resends_in : DrillLinkState → ℕ
 resends_in v = resends_of v.client.state.side.ended (length v.waiting) (length v.client.state.side.send_queue.held)
 
+-- a mark for each of the first calls, so that as many wait as say so
+abbrev pub NotesFirst : (link waiting : ℕ) → (before after : List AcceptedCall) → (run run' : List Mark) → Type 0
+NotesFirst link waiting before after run run' =
+    (after ≡ drop (length before - waiting) before) × (run' ≡ run ++ map (again_mark link) (take (length before - waiting) before))
+
 pub record NotesResends (before after : DrillLinkState) (run run' : List Mark) : Type 0 where
   pub link_is : after ≡ record before { waiting = drop (resends_in before) before.waiting }
   pub marks_are : run' ≡ run ++ map (again_mark before.number) (take (resends_in before) before.waiting)

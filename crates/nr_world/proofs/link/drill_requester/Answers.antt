@@ -21,7 +21,7 @@ returns-clause-live c = if_ok c.open_sized.result _ _ (λ r is. opened_live r c.
 pub returns-clause-stands : goal.returns-clause-stands
 returns-clause-stands c =
     let none : (c.args.opening.numbered ≡ false) ⊎ (c.args.number ≡ 0) = elim c.else-opening.branch [
-        else-opening-via-then-opening+else-number-gt0 w ↦ inr (omega (arith, w.if-number-gt0.false))
+      | else-opening-via-then-opening+else-number-gt0 w ↦ inr (omega (arith, w.if-number-gt0.false))
       | else-opening-via-else-opening w ↦ inl w.if-opening.false
     ] in
     let terms = unnumbered_client c.args.opening c.args.number none in

@@ -47,8 +47,14 @@ invariant_of-self c =
     let room : c.self.inside.fed_down + c.len.result ≤ 4611686018427387904 = grind (arith, common_steps, c.if-piece-self.false, cap, same) in
     (c.self.invariant.0, (c.self.invariant.1.0, (within_more _ _ _ _ _ c.feed.ensures.within c.self.invariant.1.1.0 (ap (λ (xs : List ℕ). length xs) c.as_slice.ensures ∙ sym c.len.ensures), (room, kept_open _ _ _ c.feed.ensures.tickets c.self.invariant.1.1.1.1))))
 
-pub invariant_of-self-2 : goal.invariant_of-self-2
-invariant_of-self-2 c =
+pub invariant_of-self-in-Ok-add_mark : goal.invariant_of-self-in-Ok-add_mark
+invariant_of-self-in-Ok-add_mark c =
+    let cap = c.self.invariant.1.1.1.0 in let same : c.len.result ≡ length c.peek-piece.result.now = c.len.ensures ∙ ap (λ (xs : List ℕ). length xs) c.in-Ok.ensures in
+    let room : c.self.inside.fed_down + c.len.result ≤ 4611686018427387904 = grind (arith, common_steps, c.if-piece-self.false, cap, same) in
+    (c.self.invariant.0, (c.self.invariant.1.0, (within_more _ _ _ _ _ c.feed.ensures.within c.self.invariant.1.1.0 (ap (λ (xs : List ℕ). length xs) c.as_slice.ensures ∙ sym c.len.ensures), (room, kept_open _ _ _ c.feed.ensures.tickets c.self.invariant.1.1.1.1))))
+
+pub invariant_of-self-in-Err-add_mark : goal.invariant_of-self-in-Err-add_mark
+invariant_of-self-in-Err-add_mark c =
     let cap = c.self.invariant.1.1.1.0 in let same : c.len.result ≡ length c.peek-piece.result.now = c.len.ensures ∙ ap (λ (xs : List ℕ). length xs) c.in-Ok.ensures in
     let room : c.self.inside.fed_down + c.len.result ≤ 4611686018427387904 = grind (arith, common_steps, c.if-piece-self.false, cap, same) in
     (c.self.invariant.0, (c.self.invariant.1.0, (within_more _ _ _ _ _ c.feed.ensures.within c.self.invariant.1.1.0 (ap (λ (xs : List ℕ). length xs) c.as_slice.ensures ∙ sym c.len.ensures), (room, kept_open _ _ _ c.feed.ensures.tickets c.self.invariant.1.1.1.1))))

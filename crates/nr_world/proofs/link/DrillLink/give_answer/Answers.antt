@@ -17,11 +17,17 @@ answer-requires-clause-next c = subst (λ (v : ResponderSide). IsNext v c.args.c
 pub answer-requires-clause-short : goal.answer-requires-clause-short
 answer-requires-clause-short c = subst (λ (xs : List ℕ). length xs ≤ sent_reply_max) (sym c.as_slice.ensures) c.requires.short
 
-pub same-self : goal.same-self
-same-self c = refl
-
 pub invariant_of-self : goal.invariant_of-self
 invariant_of-self c = server_fed_same _ c.self.inside.server.side.link c.answer.new.self.side.link _ c.answer.ensures.fed c.self.invariant
+
+pub same-payload : goal.same-payload
+same-payload c = refl
+
+pub same-reply : goal.same-reply
+same-reply c = refl
+
+pub invariant_of-self-2 : goal.invariant_of-self-2
+invariant_of-self-2 c = server_fed_same _ c.self.inside.server.side.link c.answer.new.self.side.link _ c.answer.ensures.fed c.self.invariant
 
 pub returns : goal.returns
 returns c =
