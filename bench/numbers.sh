@@ -50,7 +50,9 @@ def calls(number, xids, made):
         # the handle is an opaque of 8 bytes after the RPC head of 24 bytes, the status and the word that says that it follows
         call = made(reply[36:44])
         for xid in xids:
-            link.call(xid, call)
+            # a NULL call's reply has no status
+            link.send(xid, call)
+            link.receive()
         link.close()
     return work
 
