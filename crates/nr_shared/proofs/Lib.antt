@@ -2,6 +2,7 @@ pub mod Lists
 pub mod Chains
 pub mod Adding
 pub mod Histories
+pub mod LinkRuns
 pub mod Calls
 pub mod Ends
 pub mod Output

@@ -16,7 +16,9 @@ use Rattle.nr_turnstile.specs.Turns.{Has, pass_of}
 use Rattle.nr_shared.specs.declared.entry.Entry.{Entry}
 use Rattle.nr_shared.specs.declared.entry.InitialState.{InitialState}
 use Rattle.nr_shared.specs.declared.requester_with_sink.RequesterWithSink.{RequesterWithSink}
-use Rattle.nr_shared.specs.Histories.{ClosesCalls, FeedsInOrder, FitsHistory, IsCallAt, closes_of, initial_of, is_feeding, last_feeding, run_of}
+use Rattle.nr_shared.specs.Histories.{ClosesCalls, FeedsInOrder, IsCallAt, closes_of, initial_of, is_feeding, last_feeding}
+use Rattle.nr_shared.specs.LinkRuns.{OnEachLink}
+use Rattle.nr_shared.specs.LinkStanding.{KeepsLinkLaw}
 use Rattle.nr_shared.specs.Adding.{Adds}
 use Rattle.nr_shared.specs.Draining.{AreWrites}
 use Rattle.nr_shared.specs.Output.{EntriesMayFollow, OutputBeforeInput, WritesInFull}
@@ -57,7 +59,7 @@ pub record KeepsLaw (history : List Entry) : Type 0 where
   pub initial : InitialState
   pub is_initial : initial_of history ≡ Some initial
   pub n : ℕ
-  pub law : (opened : LinkParameters) (link : ℕ) (before : List Mark) → FitsHistory history opened link before → AskedSoFar opened link (run_of before n link history) × KeepsGrant opened link (run_of before n link history)
+  pub law : OnEachLink n history KeepsLinkLaw
   pub output : OutputBeforeInput history
   pub in_full : WritesInFull history
   pub may_follow : EntriesMayFollow history

@@ -1,50 +1,25 @@
--- The history of a shared requester: the marks of its run, and which entries close which.
-use Rattle.std.specs.Prelude.{◌≡◌, ⊤, ℕ, Bool, true, false, ◌==◌, ◌||◌, is_some, take, if◌then◌else◌, List, [], ◌∷◌, ◌++◌, Option, None, Some}
-use Rattle.std.specs.List.{flat_map}
+-- The history of a shared requester: which entries close which, and what it says of the link at hand.
+use Rattle.std.specs.Prelude.{◌≡◌, ⊤, ℕ, Bool, true, false, ◌==◌, ◌||◌, is_some, if◌then◌else◌, List, [], ◌∷◌, ◌++◌, length, Option, None, Some}
+use Rattle.std.specs.List.{filter, flat_map, list_any}
 use mathlib.Core.Option.{some}
 use lib.ListN.{get_elem?}
-use Rattle.nr_wire.specs.declared.hello.Side.TheVariants.{Initiator}
-use Rattle.nr_reduce.specs.declared.call.Submission.TheVariants as submissions
 use Rattle.nr_reduce.specs.declared.call.Call.{Call}
 use Rattle.nr_reduce.specs.declared.call.Form.{Form}
 use Rattle.nr_reduce.specs.declared.call.Outcome.{Outcome}
-use Rattle.nr_reduce.specs.declared.mark.LinkParameters.{LinkParameters}
-use Rattle.nr_reduce.specs.declared.mark.Mark.{Mark}
-use Rattle.nr_reduce.specs.declared.mark.Mark.TheVariants as marks
-use Rattle.nr_reduce.specs.Opening.{IsOpened}
 use Rattle.nr_shared.specs.declared.entry.Stop.{Stop}
 use Rattle.nr_shared.specs.declared.entry.Stop.TheVariants as causes
 use Rattle.nr_shared.specs.declared.entry.Entry.{Entry}
 use Rattle.nr_shared.specs.declared.entry.Entry.TheVariants as entries
+use Rattle.nr_shared.specs.declared.entry.InitialSink.{InitialSink}
 use Rattle.nr_shared.specs.declared.entry.InitialState.{InitialState}
 use Rattle.nr_shared.specs.Chains.{Chained, last_place}
-use Rattle.nr_shared.specs.Marks.{IsLive}
-
--- ---- Its marks
-
--- `n` is how many bytes were fed of the piece at which memory ran out, if it did.
-abbrev pub mark_at : (n link : ℕ) → Entry → List Mark
-mark_at n link (entries.Initial initial) = []
-mark_at n link (entries.Submit call form xid) = marks.Submit link call form (submissions.Accepted xid) ∷ []
-mark_at n link (entries.Wrote bytes) = marks.Wrote link Initiator bytes ∷ []
-mark_at n link (entries.Fed bytes previous) = marks.Fed link Initiator bytes ∷ []
-mark_at n link (entries.Done xid outcome submit) = marks.Done link xid outcome ∷ []
-mark_at n link (entries.Lost xid submit) = marks.Lost link xid ∷ []
-mark_at n link (entries.Forget xid submit) = marks.Forget link xid ∷ []
-mark_at n link (entries.Revoke xid bytes submit) = marks.Revoke link xid bytes ∷ []
-mark_at n link entries.WriteFailed = []
-mark_at n link (entries.Stopped cause previous) = []
-mark_at n link (entries.OutOfMemory piece previous) = marks.Fed link Initiator (take n piece) ∷ []
-
--- the run of a history, as that of the link with this number, after the marks that the requester had made before it was shared
-unfoldable pub run_of : (before : List Mark) (n link : ℕ) → List Entry → List Mark
-run_of before n link history = before ++ flat_map (mark_at n link) history
 
 -- ---- What an entry closes
 
 abbrev pub closes_of : Entry → Option ℕ
 closes_of (entries.Fed bytes previous) = Some previous
 closes_of (entries.Stopped cause previous) = Some previous
+closes_of (entries.Rejoin sink previous) = Some previous
 closes_of (entries.OutOfMemory piece previous) = Some previous
 closes_of (entries.Done xid outcome submit) = Some submit
 closes_of (entries.Lost xid submit) = Some submit
@@ -56,12 +31,13 @@ closes_of entry = None
 abbrev pub IsUnclosed : List Entry → ℕ → Type 0
 IsUnclosed history k = (n : ℕ) (e : Entry) → get_elem? history n ≡ some e → ¬ (closes_of e ≡ Some k)
 
--- ---- The entries of the pass that feeds: the initial state, what was fed since, and that no more is
+-- ---- The entries of the pass that feeds: the initial state, what was fed since, that no more is, and that the next link was dialled
 
 abbrev pub is_feeding : Entry → Bool
 is_feeding (entries.Initial initial) = true
 is_feeding (entries.Fed bytes previous) = true
 is_feeding (entries.Stopped cause previous) = true
+is_feeding (entries.Rejoin sink previous) = true
 is_feeding (entries.OutOfMemory piece previous) = true
 is_feeding entry = false
 
@@ -72,12 +48,44 @@ last_feeding history = last_place is_feeding history
 abbrev pub FeedsInOrder : List Entry → Type 0
 FeedsInOrder history = Chained closes_of is_feeding history
 
+-- ---- The link at hand
+
+abbrev pub is_rejoin : Entry → Bool
+is_rejoin (entries.Rejoin sink previous) = true
+is_rejoin entry = false
+
+-- how often a lost link was left
+abbrev pub rejoins : List Entry → ℕ
+rejoins history = length (filter is_rejoin history)
+
+abbrev pub has_rejoin : List Entry → Bool
+has_rejoin history = list_any is_rejoin history
+
+-- the entries of the link at hand: those from the last Rejoin on, or all
+abbrev pub since : List Entry → List Entry
+since [] = []
+since (e ∷ es) = if has_rejoin es then since es else e ∷ es
+
+-- its sink when bytes began to move: that of the initial state, or of the Rejoin, which has none if the dial failed
+abbrev pub sink_in : List Entry → Option InitialSink
+sink_in (entries.Initial initial ∷ es) = Some initial.sink
+sink_in (entries.Rejoin sink previous ∷ es) = sink
+sink_in history = None
+
+abbrev pub sink_of : List Entry → Option InitialSink
+sink_of history = sink_in (since history)
+
 -- ---- The initial state, and what moved since
 
 -- a history begins with the initial state
 abbrev pub initial_of : List Entry → Option InitialState
 initial_of (entries.Initial initial ∷ es) = Some initial
 initial_of history = None
+
+-- how often a lost link may be dialled again: never, if that isn't told
+abbrev pub tries_of : List Entry → Option ℕ
+tries_of (entries.Initial initial ∷ es) = initial.tries
+tries_of history = None
 
 abbrev pub written_by : Entry → List ℕ
 written_by (entries.Wrote bytes) = bytes
@@ -94,7 +102,14 @@ bytes_written history = flat_map written_by history
 abbrev pub bytes_fed : List Entry → List ℕ
 bytes_fed history = flat_map fed_by history
 
--- ---- Why bytes don't move any more
+-- those of the link at hand
+abbrev pub link_written : List Entry → List ℕ
+link_written history = bytes_written (since history)
+
+abbrev pub link_fed : List Entry → List ℕ
+link_fed history = bytes_fed (since history)
+
+-- ---- Why bytes don't move any more over the link at hand
 
 abbrev pub first_of : {A : Type 0} → Option A → Option A → Option A
 first_of (Some x) y = Some x
@@ -106,18 +121,30 @@ write_failed entry = false
 
 -- a write failed
 abbrev pub has_write_failed : List Entry → Bool
-has_write_failed [] = false
-has_write_failed (e ∷ es) = write_failed e || has_write_failed es
+has_write_failed history = list_any write_failed (since history)
 
 abbrev pub stop_in : Entry → Option Stop
 stop_in (entries.Stopped cause previous) = Some cause
 stop_in (entries.OutOfMemory piece previous) = Some causes.Memory
+stop_in (entries.Rejoin None previous) = Some causes.DialFault
 stop_in entry = None
+
+abbrev pub first_stop : List Entry → Option Stop
+first_stop [] = None
+first_stop (e ∷ es) = first_of (stop_in e) (first_stop es)
 
 -- why no more is fed
 abbrev pub stop_of : List Entry → Option Stop
-stop_of [] = None
-stop_of (e ∷ es) = first_of (stop_in e) (stop_of es)
+stop_of history = first_stop (since history)
+
+-- A read or a write failed, or the server ended its stream: the link is lost.
+abbrev pub is_loss : Option Stop → Bool
+is_loss (Some causes.LinkRead) = true
+is_loss (Some causes.Closed) = true
+is_loss stopped = false
+
+abbrev pub is_lost : List Entry → Bool
+is_lost history = has_write_failed history || is_loss (stop_of history)
 
 -- ---- The calls
 
@@ -175,13 +202,3 @@ forget_by history xid = entries.Forget xid (place_or_none (place_of xid history)
 
 abbrev pub revoke_by : List Entry → (xid : ℕ) → List ℕ → Entry
 revoke_by history xid bytes = entries.Revoke xid bytes (place_or_none (place_of xid history))
-
--- ---- What its link was opened with, and the marks before
-
--- The link was opened with these parameters, and the requester stood for these marks when it was shared, which keep the law of its side.
-pub record FitsInitialState (initial : InitialState) (opened : LinkParameters) (link : ℕ) (before : List Mark) : Type 0 where
-  pub opens : IsOpened opened
-  pub live : IsLive opened link initial.requester before
-
-abbrev pub FitsHistory : List Entry → LinkParameters → ℕ → List Mark → Type 0
-FitsHistory history opened link before = (initial : InitialState) × (initial_of history ≡ Some initial) × FitsInitialState initial opened link before

@@ -2,6 +2,8 @@ pub mod Chains
 pub mod Adding
 pub mod Histories
 pub mod Marks
+pub mod LinkRuns
+pub mod LinkStanding
 pub mod Output
 pub mod HandedBack
 pub mod Standing

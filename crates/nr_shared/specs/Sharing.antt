@@ -21,7 +21,8 @@ use Rattle.nr_shared.specs.declared.shared.TryTake.{TryTake}
 use Rattle.nr_shared.specs.declared.shared.TryTake.TheVariants as tries
 use Rattle.nr_shared.specs.declared.shared.TryRevoke.{TryRevoke}
 use Rattle.nr_shared.specs.declared.shared.TryRevoke.TheVariants as revokes
-use Rattle.nr_shared.specs.Histories.{FitsHistory, run_of, stop_of}
+use Rattle.nr_shared.specs.Histories.{stop_of}
+use Rattle.nr_shared.specs.LinkRuns.{OnLink}
 use Rattle.nr_shared.specs.Adding.{Adds}
 use Rattle.nr_shared.specs.Callers.{HasOpenCall, IsCaller, KeepsLaw, KeepsOpen}
 use Rattle.nr_shared.specs.Ending.{IsRefused}
@@ -30,13 +31,12 @@ use Rattle.nr_shared.specs.Waiting.{IsTakeTurn, OpensCall, RevokesCall}
 -- Whether a call may be submitted, by the run of a history at which memory didn't run out: a credit is left, and, if the client has a number and hasn't
 -- ended, the next xid isn't too far above the least one.
 abbrev pub SaysCredit : Bool → List Entry → Type 0
-SaysCredit has history = stop_of history ≢ Some causes.Memory → (opened : LinkParameters) (link : ℕ) (before : List Mark) → FitsHistory history opened link before →
-    has ≡ client_may_submit opened link (run_of before 0 link history)
+SaysCredit has history = stop_of history ≢ Some causes.Memory → OnLink 0 history (λ opened link run. has ≡ client_may_submit opened link run)
 
 -- The same if memory ran out: only whether a credit is left, by what was fed before, of which `n` bytes are of the piece at which it ran out.
 abbrev pub SaysCreditOutOfMemory : Bool → List Entry → Type 0
-SaysCreditOutOfMemory has history = stop_of history ≡ Some causes.Memory → (n : ℕ) × ((opened : LinkParameters) (link : ℕ) (before : List Mark) → FitsHistory history opened link before →
-    has ≡ nat_lt (calls_counted (client opened link (run_of before n link history)).state) (credits_granted opened link (run_of before n link history)))
+SaysCreditOutOfMemory has history = stop_of history ≡ Some causes.Memory → (n : ℕ) × OnLink n history (λ opened link run.
+    has ≡ nat_lt (calls_counted (client opened link run).state) (credits_granted opened link run))
 
 module _ {I O C : Type 0} where
   -- The pass is a caller's, of this shared requester, and outside of both turns. Its source is that of this requester. What it has seen keeps

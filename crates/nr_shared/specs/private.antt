@@ -2,3 +2,4 @@
 pub mod CreditState
 pub mod Flushed
 pub mod Taking
+pub mod Needs

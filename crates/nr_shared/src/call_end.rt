@@ -13,12 +13,16 @@ use nr_reduce::Refused;
 pub enum CallEnd {
     /// The requester has ended: the server broke the protocol or sent a Terminate, or memory ran out for a frame.
     Ended(End),
-    /// A read of the link failed.
+    /// A read of the link failed, and it isn't dialled again.
     LinkRead,
-    /// A write to the link failed.
+    /// A write to the link failed, and it isn't dialled again.
     LinkWrite,
-    /// The server ended its stream.
+    /// The server ended its stream, and the link isn't dialled again.
     Closed,
+    /// The link was lost once more after it had been dialled again this often, which is the maximum.
+    Tries { n: u32 },
+    /// A dial failed.
+    DialFault,
     /// Fewer xids or STags are left than the call needs.
     Spent { left: u64, need: u64 },
     /// The call needs this many bytes, more than the limit `room`.

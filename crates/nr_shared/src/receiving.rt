@@ -8,51 +8,62 @@ ghost use Rattle.nr_shared.specs.declared.entry.Stop.TheVariants as causes;
 ghost use Rattle.nr_shared.specs.declared.source_reader.InitialSource.{InitialSource};
 ghost use Rattle.nr_shared.specs.Callers.{IsFeeding};
 ghost use Rattle.nr_shared.specs.Feeding.{FeedsFor};
+ghost use Rattle.nr_shared.specs.private.Needs.{IsNeeded};
 ghost use Rattle.nr_shared.specs.Histories.{bytes_fed, stop_of};
 ghost use Rattle.nr_shared.specs.Output.{IsCallOutstanding};
 
+use crate::call_end::CallEnd;
 use crate::call_rule::CallRule;
-use crate::caller_turns::needs_input_under;
+use crate::caller_turns::{Need, need_under};
 use crate::entry::Stop;
 use crate::requester_with_sink::MainPass;
 use crate::shared::SharedRequester;
 use crate::source_reader::SourceReader;
 use crate::turns::{drain_under, feed_under, stop_under};
-use nr_outside::{Sink, Source};
+use nr_links::{Dialer, LinkSink, LinkSource};
 use nr_requester::Ticket;
 use std::sync::Wait;
 
-impl<I: Source, O: Sink, C: CallRule> SharedRequester<I, O, C> {
-    // The source's turn: reads a piece and feeds it, if the answer of the call isn't there, or no credit is left.
+impl<I: LinkSource, O: LinkSink, C: CallRule, D: Dialer<Source = I, Sink = O>> SharedRequester<
+    I,
+    O,
+    C,
+    D,
+> {
+    // The source's turn: reads a piece and feeds it, or dials again if the link is lost, if the answer of the call isn't there, or no call may be
+    // submitted. Fails if the requester can't be reopened.
     pub(crate) fn receive<R: Wait>(
         &self,
         rt: &R,
-        source: &mut nr_turnstile::Pass<SourceReader<I, O, C>>,
+        source: &mut nr_turnstile::Pass<SourceReader<I, O, C, D>>,
         ticket: Option<&Ticket>,
-    )
+    ) -> Result<(), CallEnd>
         requires rests { Rests self.now.source source.old }
-        requires initial_source { (b : InitialSource I O C) × ((seen_by source.old ≡ b ∷ []) × (home_of b.pass.value ≡ id_of self.now.main)) }
+        requires initial_source { (b : InitialSource I O C D) × ((seen_by source.old ≡ b ∷ []) × (home_of b.pass.value ≡ id_of self.now.main)) }
         ensures rests { Rests self.now.source source.new }
         ensures seen { seen_by source.new ≡ seen_by source.old }
     {
         let mut turn = self.source.take_turn(rt, source);
         let reader = turn.value();
-        self.receive_piece(rt, reader, ticket);
+        let received = self.receive_piece(rt, reader, ticket);
         turn.put_back();
+        received
     }
 
     // No turn is held during the read but the source's.
     fn receive_piece<R: Wait>(
         &self,
         rt: &R,
-        reader: &mut SourceReader<I, O, C>,
+        reader: &mut SourceReader<I, O, C, D>,
         ticket: Option<&Ticket>,
-    )
-        requires { (b : InitialSource I O C) × (FeedsFor I.left I.given I.faults b reader.old × (home_of b.pass.value ≡ id_of self.now.main)) }
-        ensures { (b : InitialSource I O C) → FeedsFor I.left I.given I.faults b reader.old → home_of b.pass.value ≡ id_of self.now.main → FeedsFor I.left I.given I.faults b reader.new }
+    ) -> Result<(), CallEnd>
+        requires { (b : InitialSource I O C D) × (FeedsFor I.link I.left I.given I.faults D.ended D.faults b reader.old × (home_of b.pass.value ≡ id_of self.now.main)) }
+        ensures { (b : InitialSource I O C D) → FeedsFor I.link I.left I.given I.faults D.ended D.faults b reader.old → home_of b.pass.value ≡ id_of self.now.main → FeedsFor I.link I.left I.given I.faults D.ended D.faults b reader.new }
     {
-        if !self.needs_input(rt, &mut reader.pass, ticket) {
-            return;
+        match self.need(rt, &mut reader.pass, ticket) {
+            Need::Nothing => return Ok(()),
+            Need::Link => return self.redial(rt, reader),
+            Need::Input => {}
         }
         match reader.read_piece() {
             Ok(n) => {
@@ -61,15 +72,11 @@ impl<I: Source, O: Sink, C: CallRule> SharedRequester<I, O, C> {
             }
             Err(cause) => self.stop(rt, &mut reader.pass, cause),
         }
+        Ok(())
     }
 
-    // Writes the output that is due. Whether more of the stream is needed, by the pass that feeds: then a call is outstanding.
-    fn needs_input<R: Wait>(
-        &self,
-        rt: &R,
-        feeding: &mut MainPass<O, C>,
-        ticket: Option<&Ticket>,
-    ) -> bool
+    // Writes the output that is due. What is needed, by the pass that feeds: then a call is outstanding.
+    fn need<R: Wait>(&self, rt: &R, feeding: &mut MainPass<O, C>, ticket: Option<&Ticket>) -> Need
         requires rests { Rests self.now.main feeding.old }
         requires feeding { IsFeeding feeding.old }
         requires lies { Lies (seen_by feeding.old) (mine_of feeding.old) }
@@ -78,14 +85,13 @@ impl<I: Source, O: Sink, C: CallRule> SharedRequester<I, O, C> {
         ensures lies { Lies (seen_by feeding.new) (mine_of feeding.new) }
         ensures fed { bytes_fed (seen_by feeding.new) ≡ bytes_fed (seen_by feeding.old) }
         ensures stop { stop_of (seen_by feeding.new) ≡ stop_of (seen_by feeding.old) }
-        ensures needs_input { result ≡ true → stop_of (seen_by feeding.new) ≡ None }
-        ensures outstanding { result ≡ true → IsCallOutstanding (seen_by feeding.new) }
+        ensures need { IsNeeded result (seen_by feeding.new) }
     {
         let mut turn = self.main.take_turn(rt, feeding);
         drain_under(&mut turn);
-        let needs_input = needs_input_under(&mut turn, ticket);
+        let need = need_under(&mut turn, ticket);
         turn.put_back();
-        needs_input
+        need
     }
 
     // A piece is fed by the pass that feeds. Output that is due is written before it and after it. Answers whether memory ran out for a frame of it.

@@ -13,8 +13,7 @@ use crate::call_end::CallEnd;
 use crate::call_rule::CallRule;
 use crate::entry::{Entry, Stop};
 use nr_link::End;
-use nr_links::READ_MAX;
-use nr_outside::Sink;
+use nr_links::{LinkSink, READ_MAX};
 use nr_reduce::{Call, Form, Refused};
 use nr_requester::{Buffers, Done, Requester, Take, Ticket};
 use nr_turnstile::{Machine, Pass, Turn};
@@ -35,7 +34,11 @@ pub enum Drained {
 #[derive(Drop)]
 pub struct RequesterWithSink<O, C> {
     pub(crate) requester: Requester,
-    pub(crate) sink: O,
+    // There is none once a dial failed.
+    pub(crate) sink: Option<O>,
+    // How often a lost link may be dialled again: never, if that isn't told; and how often one was.
+    pub(crate) tries: Option<u32>,
+    pub(crate) rejoined: u32,
     // The length of the history.
     pub(crate) entries: u64,
     // Whether output may be pending.
@@ -52,13 +55,13 @@ pub(crate) type MainTurn<'a, O, C> = Turn<'a, RequesterWithSink<O, C>>;
 
 pub(crate) type MainPass<O, C> = Pass<RequesterWithSink<O, C>>;
 
-impl<O: Sink, C: CallRule> Machine for RequesterWithSink<O, C> {
+impl<O: LinkSink, C: CallRule> Machine for RequesterWithSink<O, C> {
     ghost use Rattle.nr_shared.specs.Standing.{Stands};
     ghost use Rattle.nr_shared.specs.Histories.{closes_of};
 
     type Entry = Entry;
 
-    ghost stands = { Stands O.taken O.faults C.allows };
+    ghost stands = { Stands O.link O.taken O.faults C.allows };
 
     ghost closes = { closes_of };
 
@@ -67,7 +70,7 @@ impl<O: Sink, C: CallRule> Machine for RequesterWithSink<O, C> {
     }
 }
 
-impl<O: Sink, C: CallRule> RequesterWithSink<O, C> {
+impl<O: LinkSink, C: CallRule> RequesterWithSink<O, C> {
     ghost use Rattle.nr_shared.specs.declared.entry.Entry.{Entry};
     ghost use Rattle.nr_shared.specs.declared.entry.Entry.TheVariants as entries;
     ghost use Rattle.nr_shared.specs.Standing.{Stands, Becomes};
@@ -84,13 +87,19 @@ impl<O: Sink, C: CallRule> RequesterWithSink<O, C> {
     ghost use Rattle.nr_shared.specs.Output.{IsCallOutstanding};
 
     /// A requester that is shared, with its sink. Output may be pending.
-    pub(crate) fn of_parts(requester: Requester, sink: O) -> RequesterWithSink<O, C>
-        ensures { (history : List Entry) → IsInitialHistory O.taken O.faults requester sink history → Stands O.taken O.faults C.allows result history }
+    pub(crate) fn of_parts(
+        requester: Requester,
+        sink: O,
+        tries: Option<u32>,
+    ) -> RequesterWithSink<O, C>
+        ensures { (history : List Entry) → IsInitialHistory O.taken O.faults requester sink history → Stands O.link O.taken O.faults C.allows result history }
     {
         requester.facts();
         RequesterWithSink {
             requester,
-            sink,
+            sink: Some(sink),
+            tries,
+            rejoined: 0,
             entries: 1,
             pending: true,
             write_failed: false,
@@ -101,22 +110,48 @@ impl<O: Sink, C: CallRule> RequesterWithSink<O, C> {
 
     /// Why no answer comes any more, if so.
     pub(crate) fn end(&self) -> Option<CallEnd>
-        ensures some { IfSome result (λ end. (history : List Entry) → Stands O.taken O.faults C.allows self.now history → LinkEnded end history) }
+        ensures some { IfSome result (λ end. (history : List Entry) → Stands O.link O.taken O.faults C.allows self.now history → LinkEnded end history) }
         ensures none { result ≡ None → (self.now.requester.state.side.ended ≡ None) × (self.now.stopped ≡ None) }
     {
         if let Some(end) = self.requester.end() {
             return Some(CallEnd::Ended(end));
         }
+        match self.stopped {
+            Some(Stop::Budget) => return Some(CallEnd::Budget { read: READ_MAX }),
+            Some(Stop::Memory) => return Some(CallEnd::Ended(End::Memory)),
+            Some(Stop::DialFault) => return Some(CallEnd::DialFault),
+            _ => {}
+        }
+        match self.loss() {
+            None => None,
+            Some(loss) => self.end_of_loss(loss),
+        }
+    }
+
+    /// How the link was lost, if it was.
+    fn loss(&self) -> Option<CallEnd> {
         if self.write_failed {
             return Some(CallEnd::LinkWrite);
         }
         match self.stopped {
-            None => None,
             Some(Stop::LinkRead) => Some(CallEnd::LinkRead),
             Some(Stop::Closed) => Some(CallEnd::Closed),
-            Some(Stop::Budget) => Some(CallEnd::Budget { read: READ_MAX }),
-            Some(Stop::Memory) => Some(CallEnd::Ended(End::Memory)),
+            _ => None,
         }
+    }
+
+    /// A loss ends the link, unless it may be dialled again.
+    fn end_of_loss(&self, loss: CallEnd) -> Option<CallEnd> {
+        match self.tries {
+            None => Some(loss),
+            Some(n) if self.rejoined >= n => Some(CallEnd::Tries { n }),
+            Some(_) => None,
+        }
+    }
+
+    /// Whether the link is lost.
+    pub(crate) fn is_lost(&self) -> bool {
+        self.loss().is_some()
     }
 
     /// Whether a credit is left, and the next xid isn't too far above the least one.
@@ -130,8 +165,8 @@ impl<O: Sink, C: CallRule> RequesterWithSink<O, C> {
     pub(crate) fn submit(&mut self, call: Call, form: Form) -> Result<Ticket, (Call, Refused)>
         requires writable { CanWriteCred call.cred }
         requires allowed { C.allows call form }
-        requires stands { (history : List Entry) × Stands O.taken O.faults C.allows self.old history }
-        ensures accepted { IfOk result (λ xid. Becomes O.taken O.faults C.allows self.old self.new (entries.Submit call form xid ∷ [])) }
+        requires stands { (history : List Entry) × Stands O.link O.taken O.faults C.allows self.old history }
+        ensures accepted { IfOk result (λ xid. Becomes O.link O.taken O.faults C.allows self.old self.new (entries.Submit call form xid ∷ [])) }
         ensures refused { IfErr result (λ e. e.1 ≢ refusals.Memory → answer_of self.old.requester.state call form ≡ submissions.Refused e.1) }
         ensures returned { IfErr result (λ e. e.0 ≡ call) }
         ensures err { OnErr result (self.new ≡ self.old) }
@@ -148,8 +183,8 @@ impl<O: Sink, C: CallRule> RequesterWithSink<O, C> {
 
     /// Hands the output to the sink, unless a write failed before.
     pub(crate) fn drain(&mut self) -> Drained
-        requires stands { (history : List Entry) × Stands O.taken O.faults C.allows self.old history }
-        ensures drained { Becomes O.taken O.faults C.allows self.old self.new (drained_entries self.old.requester.state self.new.requester.state result) }
+        requires stands { (history : List Entry) × Stands O.link O.taken O.faults C.allows self.old history }
+        ensures drained { Becomes O.link O.taken O.faults C.allows self.old self.new (drained_entries self.old.requester.state self.new.requester.state result) }
         ensures tickets { KeepsTickets self.old.requester.state self.new.requester.state }
         ensures stopped { self.new.stopped ≡ self.old.stopped }
         ensures flushed { IsFlushed self.new }
@@ -160,7 +195,10 @@ impl<O: Sink, C: CallRule> RequesterWithSink<O, C> {
         if !self.pending {
             return Drained::Nothing;
         }
-        match self.requester.drain_into(&mut self.sink) {
+        let Some(sink) = &mut self.sink else {
+            return Drained::Nothing;
+        };
+        match self.requester.drain_into(sink) {
             Ok(()) => {
                 self.pending = false;
                 self.entries += 1;
@@ -179,9 +217,9 @@ impl<O: Sink, C: CallRule> RequesterWithSink<O, C> {
         requires some { 0 < length piece.now }
         requires goes { self.old.stopped ≡ None }
         requires flushed { IsFlushed self.old }
-        requires stands { (history : List Entry) × (Stands O.taken O.faults C.allows self.old history × (length (bytes_fed history) + length piece.now ≤ read_max)) }
-        ensures fed { (history : List Entry) (last : ℕ) → Stands O.taken O.faults C.allows self.old history → last_feeding history ≡ Some last → length (bytes_fed history) + length piece.now ≤ read_max → IsCallOutstanding history →
-            Stands O.taken O.faults C.allows self.new (history ++ fed_entry result piece.now last ∷ []) }
+        requires stands { (history : List Entry) × (Stands O.link O.taken O.faults C.allows self.old history × (length (bytes_fed history) + length piece.now ≤ read_max)) }
+        ensures fed { (history : List Entry) (last : ℕ) → Stands O.link O.taken O.faults C.allows self.old history → last_feeding history ≡ Some last → length (bytes_fed history) + length piece.now ≤ read_max → IsCallOutstanding history →
+            Stands O.link O.taken O.faults C.allows self.new (history ++ fed_entry result piece.now last ∷ []) }
         ensures tickets { KeepsTickets self.old.requester.state self.new.requester.state }
     {
         self.entries += 1;
@@ -202,9 +240,9 @@ impl<O: Sink, C: CallRule> RequesterWithSink<O, C> {
     pub(crate) fn stop(&mut self, cause: Stop)
         requires cause { cause ≢ causes.Memory }
         requires goes { self.old.stopped ≡ None }
-        requires stands { (history : List Entry) × Stands O.taken O.faults C.allows self.old history }
-        ensures stopped { (history : List Entry) (last : ℕ) → Stands O.taken O.faults C.allows self.old history → last_feeding history ≡ Some last → IsCallOutstanding history →
-            Stands O.taken O.faults C.allows self.new (history ++ entries.Stopped cause last ∷ []) }
+        requires stands { (history : List Entry) × Stands O.link O.taken O.faults C.allows self.old history }
+        ensures stopped { (history : List Entry) (last : ℕ) → Stands O.link O.taken O.faults C.allows self.old history → last_feeding history ≡ Some last → IsCallOutstanding history →
+            Stands O.link O.taken O.faults C.allows self.new (history ++ entries.Stopped cause last ∷ []) }
     {
         self.stopped = Some(cause);
         self.entries += 1;
@@ -212,9 +250,9 @@ impl<O: Sink, C: CallRule> RequesterWithSink<O, C> {
 
     /// Takes the answer of a call; or the call comes back with its buffers, if the requester has ended before.
     pub(crate) fn try_take(&mut self, ticket: Ticket) -> Take
-        requires has_call { (history : List Entry) × (k : ℕ) × (call : Call) × (Stands O.taken O.faults C.allows self.old history × (IsCallAt history ticket k call × IsUnclosed history k)) }
-        ensures taken { (history : List Entry) (k : ℕ) (call : Call) → Stands O.taken O.faults C.allows self.old history → IsCallAt history ticket k call → IsUnclosed history k →
-            TakenBy O.taken O.faults C.allows history ticket k call result self.new }
+        requires has_call { (history : List Entry) × (k : ℕ) × (call : Call) × (Stands O.link O.taken O.faults C.allows self.old history × (IsCallAt history ticket k call × IsUnclosed history k)) }
+        ensures taken { (history : List Entry) (k : ℕ) (call : Call) → Stands O.link O.taken O.faults C.allows self.old history → IsCallAt history ticket k call → IsUnclosed history k →
+            TakenBy O.link O.taken O.faults C.allows history ticket k call result self.new }
         ensures there { is_some (found_answer ticket self.old.requester.state) ≡ true → IsDone result }
     {
         match self.requester.try_take(ticket) {
@@ -232,9 +270,9 @@ impl<O: Sink, C: CallRule> RequesterWithSink<O, C> {
 
     /// Forgets a call.
     pub(crate) fn forget(&mut self, ticket: Ticket)
-        requires has_call { (history : List Entry) × (k : ℕ) × (call : Call) × (Stands O.taken O.faults C.allows self.old history × (IsCallAt history ticket k call × IsUnclosed history k)) }
-        ensures forgotten { (history : List Entry) (k : ℕ) (call : Call) → Stands O.taken O.faults C.allows self.old history → IsCallAt history ticket k call → IsUnclosed history k →
-            Stands O.taken O.faults C.allows self.new (history ++ entries.Forget ticket k ∷ []) }
+        requires has_call { (history : List Entry) × (k : ℕ) × (call : Call) × (Stands O.link O.taken O.faults C.allows self.old history × (IsCallAt history ticket k call × IsUnclosed history k)) }
+        ensures forgotten { (history : List Entry) (k : ℕ) (call : Call) → Stands O.link O.taken O.faults C.allows self.old history → IsCallAt history ticket k call → IsUnclosed history k →
+            Stands O.link O.taken O.faults C.allows self.new (history ++ entries.Forget ticket k ∷ []) }
     {
         self.requester.forget(ticket);
         self.entries += 1;
@@ -242,9 +280,9 @@ impl<O: Sink, C: CallRule> RequesterWithSink<O, C> {
 
     /// Revokes the memory of a call. The call and its buffers come back.
     pub(crate) fn revoke(&mut self, ticket: Ticket) -> (Call, Buffers)
-        requires has_call { (history : List Entry) × (k : ℕ) × (call : Call) × (Stands O.taken O.faults C.allows self.old history × (IsCallAt history ticket k call × IsUnclosed history k)) }
-        ensures revoked { (history : List Entry) (k : ℕ) (call : Call) → Stands O.taken O.faults C.allows self.old history → IsCallAt history ticket k call → IsUnclosed history k →
-            Stands O.taken O.faults C.allows self.new (history ++ entries.Revoke ticket (bytes_of_buffers result.1) k ∷ []) × (result.0 ≡ call) }
+        requires has_call { (history : List Entry) × (k : ℕ) × (call : Call) × (Stands O.link O.taken O.faults C.allows self.old history × (IsCallAt history ticket k call × IsUnclosed history k)) }
+        ensures revoked { (history : List Entry) (k : ℕ) (call : Call) → Stands O.link O.taken O.faults C.allows self.old history → IsCallAt history ticket k call → IsUnclosed history k →
+            Stands O.link O.taken O.faults C.allows self.new (history ++ entries.Revoke ticket (bytes_of_buffers result.1) k ∷ []) × (result.0 ≡ call) }
     {
         let given = self.requester.revoke(ticket);
         self.entries += 1;

@@ -14,10 +14,14 @@ use nr_outside::{Failed, Sink, Source};
 use nr_turnstile::{Machine, Pass};
 use std::snapshot::Snapshot;
 
-/// The source of a link, with the one pass that feeds what it gives.
+/// The source of a link, with the one pass that feeds what it gives, and what dials the next link.
 #[derive(Drop)]
-pub struct SourceReader<I, O: Sink, C: CallRule> {
-    pub(crate) source: I,
+pub struct SourceReader<I, O: LinkSink, C: CallRule, D> {
+    // There is none once a dial failed.
+    pub(crate) source: Option<I>,
+    pub(crate) dialer: D,
+    // What is dialled.
+    pub(crate) addr: Address,
     pub(crate) pass: Pass<RequesterWithSink<O, C>>,
     // How many bytes were read, with those before it was shared.
     pub(crate) read: u64,
@@ -25,22 +29,24 @@ pub struct SourceReader<I, O: Sink, C: CallRule> {
     pub(crate) buf: Vec<u8>,
 }
 
-/// The source when it was shared, and the first pass that fed. No value of it is made.
-pub struct InitialSource<I, O: Sink, C: CallRule> {
+/// The source and the dialer when they were shared, and the first pass that fed. No value of it is made.
+pub struct InitialSource<I, O: LinkSink, C: CallRule, D> {
     /// The source.
     pub source: Snapshot<I>,
+    /// The dialer.
+    pub dialer: Snapshot<D>,
     /// The pass.
     pub pass: Snapshot<Pass<RequesterWithSink<O, C>>>,
     /// How many bytes of it were read before.
     pub read: u64,
 }
 
-impl<I: Source, O: Sink, C: CallRule> Machine for SourceReader<I, O, C> {
+impl<I: Source, O: LinkSink, C: CallRule> Machine for SourceReader<I, O, C> {
     ghost use Rattle.nr_shared.specs.Feeding.{Feeds, closes_none};
 
     type Entry = InitialSource<I, O, C>;
 
-    ghost stands = { Feeds I.left I.given I.faults };
+    ghost stands = { Feeds I.link I.left I.given I.faults D.ended D.faults };
 
     ghost closes = { closes_none };
 
@@ -49,7 +55,7 @@ impl<I: Source, O: Sink, C: CallRule> Machine for SourceReader<I, O, C> {
     }
 }
 
-impl<I: Source, O: Sink, C: CallRule> SourceReader<I, O, C> {
+impl<I: Source, O: LinkSink, C: CallRule> SourceReader<I, O, C> {
     ghost use Rattle.nr_shared.specs.Feeding.{StopHolds};
     ghost use Rattle.nr_shared.specs.declared.entry.Stop.TheVariants as causes;
 
