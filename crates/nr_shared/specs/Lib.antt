@@ -15,4 +15,6 @@ pub mod Draining
 pub mod Ending
 pub mod Opening
 pub mod Laws
+pub mod Numbered
+pub mod Redialling
 pub mod private
