@@ -4,9 +4,12 @@ use Rattle.std.specs.List.{AllByRecursion, filter}
 use Rattle.nr_wire.specs.declared.hello.Side.TheVariants.{Initiator}
 use Rattle.nr_reduce.specs.declared.mark.Mark.{Mark}
 use Rattle.nr_reduce.specs.declared.mark.LinkParameters.{LinkParameters}
+use Rattle.nr_reduce.specs.declared.mark.Mark.TheVariants as marks
 use Rattle.nr_reduce.specs.Asked.{as_accepted, client_calls}
 use Rattle.nr_reduce.specs.EndRules.{live}
 use Rattle.nr_reduce.specs.Events.{events}
+use Rattle.nr_reduce.specs.History.{bytes_received}
+use Rattle.nr_reduce.specs.Opening.{IsFirstLink}
 use Rattle.nr_reduce.specs.SubmitAnswer.{calls_to_resend}
 use Rattle.nr_reduce.specs.History.{bytes_received}
 use Rattle.nr_reduce.specs.KeptClient.{CanResume}
@@ -17,7 +20,7 @@ use Rattle.nr_requester.specs.RequesterState.{RequesterState, RequesterSide, kep
 use Rattle.nr_requester.specs.CountedMarks.{marks_max, marks_of}
 use Rattle.nr_requester.specs.KeptAnswers.{HandsBack, IsAsked, completed_of, is_due}
 use Rattle.nr_requester.specs.OpenCalls.{found_answer}
-use Rattle.nr_requester.specs.Standing.{AnswersWith, KeepsClient, RequesterRepresents}
+use Rattle.nr_requester.specs.Standing.{AnswersWith, KeepsClient, RequesterRepresents, RequesterRunsOut}
 
 -- the answers that belong to one link, and a requester with these alone
 abbrev pub own_answers : (ℕ → Bool) → RequesterState → List AnsweredCall
@@ -59,6 +62,35 @@ abbrev pub KeepsOn : RequesterSide → (ℕ → Mark) → RequesterSide → Type
 KeepsOn before mark after = (is_own : ℕ → Bool) (earlier : ℕ) (opened : LinkParameters) (link : ℕ) (run : List Mark) →
     RequesterKeeps is_own earlier opened link before run → RequesterKeeps is_own earlier opened link after (run ++ mark link ∷ [])
 
+-- ---- One that ran out of memory
+
+-- A requester that ran out of memory while it was fed, on a link that may be one that was reopened: as `RequesterRunsOut`, with the answers that belong
+-- to the link, and with the marks that it had made before the link began. It sends no call again after the piece at which it stopped.
+pub record RequesterStops (is_own : ℕ → Bool) (earlier : ℕ) (opened : LinkParameters) (link : ℕ) (h : RequesterSide) (stopped run : List Mark) : Type 0 where
+  pub out : ClientRunsOut opened link (kept_client h.state) (queue_of h.state) stopped run
+  pub received : bytes_received link Initiator run ≡ bytes_received link Initiator stopped
+  pub written : ℕ
+  pub same : client opened link run ≡ live (record (client opened link stopped).state { written = written })
+  pub calls : HasOwnCalls is_own h.state
+  pub answers : AnswersWith (map as_accepted opened.resumed) opened link (own_side is_own h) run
+  pub counted : h.marks ≡ min (earlier + marks_of link run) marks_max
+
+-- For every list of marks that the first one stood for when it had run out of memory, the second stands for that list with one mark more,
+abbrev pub StopsOn : RequesterSide → (ℕ → Mark) → RequesterSide → Type 0
+StopsOn before mark after = (is_own : ℕ → Bool) (earlier : ℕ) (opened : LinkParameters) (link : ℕ) (stopped run : List Mark) →
+    RequesterStops is_own earlier opened link before stopped run → RequesterStops is_own earlier opened link after stopped (run ++ mark link ∷ [])
+
+-- or, for a revoke, as if the revoke had come before it stopped.
+abbrev pub StopsOnRevoke : RequesterSide → ℕ → List ℕ → RequesterSide → Type 0
+StopsOnRevoke before xid bytes after = (is_own : ℕ → Bool) (earlier : ℕ) (opened : LinkParameters) (link : ℕ) (stopped run : List Mark) →
+    RequesterStops is_own earlier opened link before stopped run →
+    RequesterStops is_own earlier opened link after (stopped ++ marks.Revoke link xid bytes ∷ []) (run ++ marks.Revoke link xid bytes ∷ [])
+
+-- For every list of marks that the first one stood for, the second ran out of memory after that list with a Fed of these bytes.
+abbrev pub StopsAfter : RequesterSide → (fed : List ℕ) → RequesterSide → Type 0
+StopsAfter before fed after = (is_own : ℕ → Bool) (earlier : ℕ) (opened : LinkParameters) (link : ℕ) (run : List Mark) → RequesterKeeps is_own earlier opened link before run →
+    RequesterStops is_own earlier opened link after (run ++ marks.Fed link Initiator fed ∷ []) (run ++ marks.Fed link Initiator fed ∷ [])
+
 -- ---- A link that it left
 
 -- It keeps the answers of a link that it left after some of these marks: the outcomes that are due, each with its call and its buffers. No call that
@@ -81,3 +113,7 @@ earlier_own is_own r xid = is_own xid && is_some (found_answer xid r)
 
 abbrev pub FirstLinksAreKept : Type 0
 FirstLinksAreKept = (opened : LinkParameters) (link : ℕ) (h : RequesterSide) (run : List Mark) → RequesterRepresents opened link h run → RequesterKeeps (λ xid. true) 0 opened link h run
+
+-- The same of one that ran out of memory.
+abbrev pub FirstLinksStop : Type 0
+FirstLinksStop = (opened : LinkParameters) (link : ℕ) (h : RequesterSide) (stopped run : List Mark) → IsFirstLink opened → RequesterRunsOut opened link h stopped run → RequesterStops (λ xid. true) 0 opened link h stopped run

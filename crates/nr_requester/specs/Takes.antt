@@ -9,7 +9,7 @@ use Rattle.nr_requester.specs.AfterCalls.{after_revoke, after_forget}
 use Rattle.nr_requester.specs.Buffers.{bytes_of_buffers}
 use Rattle.nr_requester.specs.OpenCalls.{found_answer, open_call, buffers_of, KeepsTickets, ClosesTicket}
 use Rattle.nr_requester.specs.Standing.{StandsOn, StaysOut, StopsRevoked}
-use Rattle.nr_requester.specs.ReopenedLinks.{KeepsOn}
+use Rattle.nr_requester.specs.ReopenedLinks.{KeepsOn, StopsOn, StopsOnRevoke}
 
 -- Done if and only if a message brought an outcome: the call, its buffers and the outcome go to the owner. Else Failed if and only if the link has
 -- ended: the call goes back with its buffers, and its regions are released. Else NotYet, and nothing changes.
@@ -35,9 +35,9 @@ TakeStands before xid (takes.Failed call buffers end) after = StandsOn before (�
 
 -- The same of a requester of a link that may be one that was reopened.
 abbrev pub TakeKeeps : RequesterSide → ℕ → Take → RequesterSide → Type 0
-TakeKeeps before xid (takes.Done done) after = KeepsOn before (λ link. marks.Done link xid done.outcome) after
+TakeKeeps before xid (takes.Done done) after = KeepsOn before (λ link. marks.Done link xid done.outcome) after × StopsOn before (λ link. marks.Done link xid done.outcome) after
 TakeKeeps before xid (takes.NotYet ticket) after = Unit {0}
-TakeKeeps before xid (takes.Failed call buffers end) after = KeepsOn before (λ link. marks.Lost link xid) after
+TakeKeeps before xid (takes.Failed call buffers end) after = KeepsOn before (λ link. marks.Lost link xid) after × StopsOnRevoke before xid (bytes_of_buffers buffers) after
 
 -- a call that is lost is a mark
 abbrev pub LostIsAMark : Type 0
