@@ -1,18 +1,12 @@
 -- The source of a link, and the pass that feeds what it gives.
-use Rattle.std.specs.Prelude.{◌≡◌, ◌≢◌, ⊤, ◌⊎◌, ℕ, zero, suc, ◌+◌, ◌≤◌, true, List, [], ◌∷◌, ◌++◌, length, Option, None, Some, IfSome, is_some}
+use Rattle.std.specs.Prelude.{◌≡◌, ◌≢◌, ⊤, ℕ, zero, suc, ◌+◌, ◌≤◌, true, List, [], ◌∷◌, ◌++◌, length, Option, None, Some, IfSome, is_some}
 use Rattle.std.specs.Io.KnownBytes.{IsAtEnd}
 use Rattle.nr_outside.specs.Content.{HandsOut}
 use Rattle.nr_outside.specs.Faults.{Rises}
 use Rattle.nr_links.specs.Limits.{piece_max, read_max}
-use Rattle.nr_links.specs.Asked.{Asks}
-use Rattle.nr_links.specs.Links.{EndedLink, HasOpenLink, IsNewLink, LinkLog}
-use Rattle.nr_turnstile.specs.declared.turnstile.Pass.{Pass}
-use Rattle.nr_shared.specs.declared.requester_with_sink.RequesterWithSink.{RequesterWithSink}
-use Rattle.nr_shared.specs.Adding.{Adds}
-use Rattle.nr_shared.specs.Draining.{rejoined_after, stopped_after}
+use Rattle.nr_links.specs.Links.{EndedLink, HasOpenLink, LinkLog}
 use Rattle.nr_turnstile.specs.Rule.{Lies}
 use Rattle.nr_turnstile.specs.Passes.{IsOutside, home_of, seen_by, mine_of}
-use Rattle.nr_shared.specs.declared.entry.Entry.{Entry}
 use Rattle.nr_shared.specs.declared.entry.InitialSink.{InitialSink}
 use Rattle.nr_shared.specs.declared.entry.Stop.{Stop}
 use Rattle.nr_shared.specs.declared.entry.Stop.TheVariants as causes
@@ -31,12 +25,6 @@ StopHolds (Some causes.LinkRead) faults faults' left read = Rises faults faults'
 StopHolds (Some causes.Closed) faults faults' left read = IsAtEnd left
 StopHolds (Some causes.Budget) faults faults' left read = read ≡ read_max
 StopHolds stopped faults faults' left read = ⊤
-
--- the cause is that a lost link can't be left
-abbrev pub CannotReopen : Stop → Type 0
-CannotReopen (causes.Spent left need) = ⊤
-CannotReopen causes.NotReopened = ⊤
-CannotReopen cause = ⊥
 
 -- ---- The source at hand
 
@@ -102,46 +90,3 @@ pub record FeedsFor {I O C D : Type 0} (link : I → ℕ) (left given : I → Op
 -- it has one entry: the source and the dialer when they were shared, and the pass that fed first
 abbrev pub Feeds : {I O C D : Type 0} → (I → ℕ) → (I → Option (List ℕ)) → (I → Option (List ℕ)) → (I → ℕ) → (D → Option LinkLog) → (D → ℕ) → SourceReader I O C D → List (InitialSource I O C D) → Type 0
 Feeds {I} {O} {C} {D} link left given faults ended dialer_faults s history = (b : InitialSource I O C D) × (history ≡ b ∷ []) × FeedsFor link left given faults ended dialer_faults b s
-
--- ---- A redial
-
--- A lost link can be hung up: its source has the number of its sink, and fewer links were hung up than made.
-abbrev pub HasLink : {I D : Type 0} → (link : I → ℕ) → (ended : D → Option LinkLog) → Option InitialSink → Option I → D → Type 0
-HasLink link ended (Some sink) (Some source) dialer = (link source ≡ sink.link) × HasOpenLink (ended dialer)
-HasLink link ended None None dialer = ⊤
-HasLink link ended sink source dialer = ⊥
-
--- The next link, if its dial succeeded, is new, and both halves have one number.
-abbrev pub IsNext : {I : Type 0} → (link : I → ℕ) → (given : I → Option (List ℕ)) → (faults : I → ℕ) → Option I → Option InitialSink → Type 0
-IsNext link given faults (Some source) (Some sink) = (link source ≡ sink.link) × IsNewLink (given source) sink.taken (faults source) sink.faults
-IsNext link given faults None None = ⊤
-IsNext link given faults source sink = ⊥
-
--- what became of a dial: the next link was made, and the dialer's count is as it was; or there is none, and the count rose
-abbrev pub IsDialled : Option InitialSink → (ended ended' : Option LinkLog) → (faults faults' : ℕ) → Type 0
-IsDialled (Some sink) ended ended' faults faults' = HasOpenLink ended' × (faults' ≡ faults)
-IsDialled None ended ended' faults faults' = Rises faults faults'
-
-module _ {I O C D : Type 0} (link : I → ℕ) (given : I → Option (List ℕ)) (faults : I → ℕ) (ended : D → Option LinkLog) (asked : D → Option (List (List ℕ))) (dialer_faults : D → ℕ) where
-  -- The pass adds the Rejoin, and has seen no other entry. The link that is left was hung up, and this address was dialled once.
-  pub record Rejoins (p q : Pass (RequesterWithSink O C) Entry) (source' : Option I) (dialer dialer' : D) (addr : List ℕ) : Type 0 where
-    pub sink : Option InitialSink
-    pub adds : Adds p q (rejoined_after (seen_by p) sink ∷ [])
-    pub seen : seen_by q ≡ seen_by p ++ rejoined_after (seen_by p) sink ∷ []
-    pub next : IsNext link given faults source' sink
-    pub dialled : IsDialled sink (ended dialer) (ended dialer') (dialer_faults dialer) (dialer_faults dialer')
-    pub asks : Asks (asked dialer) (asked dialer') addr
-    pub hung_up : HungUp (ended dialer) (ended dialer') 1
-
-  -- The requester can't be reopened: the pass adds why, and the link stays.
-  pub record Stays (p q : Pass (RequesterWithSink O C) Entry) (source source' : Option I) (dialer dialer' : D) : Type 0 where
-    pub cause : Stop
-    pub cannot : CannotReopen cause
-    pub adds : Adds p q (stopped_after (seen_by p) cause ∷ [])
-    pub seen : seen_by q ≡ seen_by p ++ stopped_after (seen_by p) cause ∷ []
-    pub same_source : source' ≡ source
-    pub same_dialer : dialer' ≡ dialer
-
-  -- what a redial does under both turns
-  abbrev pub Redials : Pass (RequesterWithSink O C) Entry → Pass (RequesterWithSink O C) Entry → (source source' : Option I) → (dialer dialer' : D) → (addr : List ℕ) → Type 0
-  Redials p q source source' dialer dialer' addr = Rejoins p q source' dialer dialer' addr ⊎ Stays p q source source' dialer dialer'
