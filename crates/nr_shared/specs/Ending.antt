@@ -1,5 +1,5 @@
 -- Why a call has no answer, by the history of the shared requester.
-use Rattle.std.specs.Prelude.{◌≡◌, ◌≢◌, ⊤, ◌⊎◌, ℕ, ◌-◌, ◌+◌, ◌<◌, true, List, [], ◌∷◌, Option, None, Some}
+use Rattle.std.specs.Prelude.{◌≡◌, ◌≢◌, ⊤, ◌⊎◌, ℕ, true, List, Option, None, Some}
 use Rattle.nr_link.specs.declared.end.End.{End}
 use Rattle.nr_link.specs.declared.end.End.TheVariants as ends
 use Rattle.nr_links.specs.Limits.{read_max}
@@ -8,12 +8,6 @@ use Rattle.nr_reduce.specs.declared.call.Form.{Form}
 use Rattle.nr_reduce.specs.declared.call.Refused.{Refused}
 use Rattle.nr_reduce.specs.declared.call.Refused.TheVariants as refusals
 use Rattle.nr_reduce.specs.declared.call.Submission.TheVariants as submissions
-use Rattle.nr_reduce.specs.declared.mark.LinkParameters.{LinkParameters}
-use Rattle.nr_reduce.specs.declared.mark.Mark.{Mark}
-use Rattle.nr_reduce.specs.declared.mark.ResumedCall.{ResumedCall}
-use Rattle.nr_reduce.specs.Limits.{numbers_end}
-use Rattle.nr_reduce.specs.Plans.{regions_needed}
-use Rattle.nr_reduce.specs.Reopening.{reopened}
 use Rattle.nr_reduce.specs.Run.{client}
 use Rattle.nr_reduce.specs.SubmitAnswer.{submit_answer}
 use Rattle.nr_shared.specs.declared.call_end.CallEnd.{CallEnd}
@@ -50,40 +44,27 @@ LossEnds None calls.Closed history = stop_of history ≡ Some causes.Closed
 LossEnds (Some tries) (calls.Tries n) history = (n ≡ tries) × ((rejoins history ≡ tries) × (is_lost history ≡ true))
 LossEnds tries end history = ⊥
 
--- Why no answer comes over the link any more: the requester has ended, the link is lost and isn't dialled again, a dial failed, or the maximum was read.
+-- The requester has ended so; or, for an End of memory, that ran out for a reopening.
+abbrev pub EndsSo : End → List Entry → Type 0
+EndsSo ends.Memory history = (stop_of history ≡ Some causes.Memory) ⊎ (stop_of history ≡ Some causes.NotReopened)
+EndsSo end history = ClientEnded end history
+
+-- Why no answer comes over the link any more: the requester has ended; the link is lost, and isn't dialled again; a dial failed; the maximum was read; or
+-- too few STags are left for the calls that would be sent again.
 abbrev pub LinkEnded : CallEnd → List Entry → Type 0
-LinkEnded (calls.Ended end) history = HasEnded end history
+LinkEnded (calls.Ended end) history = EndsSo end history
 LinkEnded calls.LinkWrite history = LossEnds (tries_of history) calls.LinkWrite history
 LinkEnded calls.LinkRead history = LossEnds (tries_of history) calls.LinkRead history
 LinkEnded calls.Closed history = LossEnds (tries_of history) calls.Closed history
 LinkEnded (calls.Tries n) history = LossEnds (tries_of history) (calls.Tries n) history
 LinkEnded calls.DialFault history = stop_of history ≡ Some causes.DialFault
 LinkEnded (calls.Budget read) history = (read ≡ read_max) × (stop_of history ≡ Some causes.Budget)
+LinkEnded (calls.Spent left need) history = stop_of history ≡ Some (causes.Spent left need)
 LinkEnded end history = ⊥
-
--- how many regions some calls have that are sent again
-abbrev pub stags_for : List ResumedCall → ℕ
-stags_for [] = 0
-stags_for (r ∷ calls) = regions_needed r.plan + stags_for calls
-
--- The client of the run is left with fewer STags than its calls need, which would be sent again.
-abbrev pub SpentAtReopening : (left need : ℕ) → List Entry → Type 0
-SpentAtReopening left need history = (n : ℕ) × OnLink n history (λ opened link run.
-    (left ≡ numbers_end - (client opened link run).state.stag) × ((need ≡ stags_for (reopened opened link run).resumed) × (left < need)))
-
--- A lost link can't be left: too few STags are left, or memory ran out.
-abbrev pub CannotReopen : CallEnd → List Entry → Type 0
-CannotReopen (calls.Spent left need) history = (is_lost history ≡ true) × SpentAtReopening left need history
-CannotReopen calls.Memory history = is_lost history ≡ true
-CannotReopen end history = ⊥
-
--- Why a call that was submitted has no answer.
-abbrev pub CallEnded : CallEnd → List Entry → Type 0
-CallEnded end history = LinkEnded end history ⊎ CannotReopen end history
 
 -- why a call wasn't submitted
 abbrev pub IsCause : CallEnd → Call → Form → List Entry → Type 0
-IsCause (calls.Spent left need) call form history = ClientRefuses (refusals.Spent left need) call form history ⊎ CannotReopen (calls.Spent left need) history
+IsCause (calls.Spent left need) call form history = ClientRefuses (refusals.Spent left need) call form history ⊎ LinkEnded (calls.Spent left need) history
 IsCause (calls.TooLarge need room) call form history = ClientRefuses (refusals.TooLarge need room) call form history
 IsCause calls.Memory call form history = ⊤
 IsCause end call form history = LinkEnded end history

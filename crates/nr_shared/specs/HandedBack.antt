@@ -16,7 +16,7 @@ use Rattle.nr_shared.specs.declared.entry.Entry.{Entry}
 use Rattle.nr_shared.specs.declared.entry.Entry.TheVariants as entries
 use Rattle.nr_shared.specs.declared.entry.Stop.TheVariants as causes
 use Rattle.nr_shared.specs.Histories.{place_of, place_or_none, stop_of}
-use Rattle.nr_shared.specs.LinkRuns.{OnEachLink, OnLink, OnOutcome}
+use Rattle.nr_shared.specs.LinkRuns.{OnCallLink, OnEachLink, OnLink}
 
 -- what each region of a call holds by these marks, in the order read chunk, write chunk, reply chunk
 abbrev pub regions_placed : LinkParameters → (link : ℕ) → List Mark → (xid : ℕ) → List (List ℕ)
@@ -25,12 +25,12 @@ regions_placed opened link run xid = map (λ r. placed_bytes opened link Initiat
 -- The buffers of a call have what its regions hold by this history; `n` is how many bytes were fed of the piece at which memory ran out.
 pub record HavePlaced (xid : ℕ) (buffers : Buffers) (history : List Entry) : Type 0 where
   pub n : ℕ
-  pub placed : OnOutcome n xid history (λ opened link run. buffers_in buffers ≡ regions_placed opened link run xid)
+  pub placed : OnCallLink n xid history (λ opened link run. buffers_in buffers ≡ regions_placed opened link run xid)
 
 -- The same of the buffers of a call that is lost, one after the other; and no message brought an outcome of it.
 pub record IsLostWith (xid : ℕ) (buffers : Buffers) (history : List Entry) : Type 0 where
   pub n : ℕ
-  pub placed : OnOutcome n xid history (λ opened link run. bytes_of_buffers buffers ≡ revoked_bytes opened link run xid)
+  pub placed : OnCallLink n xid history (λ opened link run. bytes_of_buffers buffers ≡ revoked_bytes opened link run xid)
   pub none : OnEachLink n history (λ opened link run. (c : CompletedCall) → Contains (client opened link run).state.outcomes c → c.xid ≢ xid)
 
 -- No message brought an outcome of the call by this history.

@@ -1,6 +1,6 @@
 -- The history of a shared requester: which entries close which, and what it says of the link at hand.
-use Rattle.std.specs.Prelude.{◌≡◌, ⊤, ℕ, Bool, true, false, ◌==◌, ◌||◌, is_some, if◌then◌else◌, List, [], ◌∷◌, ◌++◌, length, Option, None, Some}
-use Rattle.std.specs.List.{filter, flat_map, list_any}
+use Rattle.std.specs.Prelude.{◌≡◌, ⊤, ℕ, ◌+◌, Bool, true, false, ◌==◌, is_some, if◌then◌else◌, List, [], ◌∷◌, ◌++◌, Option, None, Some}
+use Rattle.std.specs.List.{flat_map}
 use mathlib.Core.Option.{some}
 use lib.ListN.{get_elem?}
 use Rattle.nr_reduce.specs.declared.call.Call.{Call}
@@ -48,33 +48,6 @@ last_feeding history = last_place is_feeding history
 abbrev pub FeedsInOrder : List Entry → Type 0
 FeedsInOrder history = Chained closes_of is_feeding history
 
--- ---- The link at hand
-
-abbrev pub is_rejoin : Entry → Bool
-is_rejoin (entries.Rejoin sink previous) = true
-is_rejoin entry = false
-
--- how often a lost link was left
-abbrev pub rejoins : List Entry → ℕ
-rejoins history = length (filter is_rejoin history)
-
-abbrev pub has_rejoin : List Entry → Bool
-has_rejoin history = list_any is_rejoin history
-
--- the entries of the link at hand: those from the last Rejoin on, or all
-abbrev pub since : List Entry → List Entry
-since [] = []
-since (e ∷ es) = if has_rejoin es then since es else e ∷ es
-
--- its sink when bytes began to move: that of the initial state, or of the Rejoin, which has none if the dial failed
-abbrev pub sink_in : List Entry → Option InitialSink
-sink_in (entries.Initial initial ∷ es) = Some initial.sink
-sink_in (entries.Rejoin sink previous ∷ es) = sink
-sink_in history = None
-
-abbrev pub sink_of : List Entry → Option InitialSink
-sink_of history = sink_in (since history)
-
 -- ---- The initial state, and what moved since
 
 -- a history begins with the initial state
@@ -83,9 +56,12 @@ initial_of (entries.Initial initial ∷ es) = Some initial
 initial_of history = None
 
 -- how often a lost link may be dialled again: never, if that isn't told
+abbrev pub tries_in : Option InitialState → Option ℕ
+tries_in None = None
+tries_in (Some initial) = initial.tries
+
 abbrev pub tries_of : List Entry → Option ℕ
-tries_of (entries.Initial initial ∷ es) = initial.tries
-tries_of history = None
+tries_of history = tries_in (initial_of history)
 
 abbrev pub written_by : Entry → List ℕ
 written_by (entries.Wrote bytes) = bytes
@@ -96,55 +72,80 @@ fed_by (entries.Fed bytes previous) = bytes
 fed_by (entries.OutOfMemory piece previous) = piece
 fed_by entry = []
 
+-- the bytes that were written and fed over all links
 abbrev pub bytes_written : List Entry → List ℕ
 bytes_written history = flat_map written_by history
 
 abbrev pub bytes_fed : List Entry → List ℕ
 bytes_fed history = flat_map fed_by history
 
--- those of the link at hand
+-- ---- The link at hand
+
+-- What the entries so far tell of it: its sink when its bytes began to move, or none if its dial failed; the bytes that its sink took, and those that were
+-- fed over it; whether a write failed; why no more is fed; and how many links were left before it.
+pub record PresentLink : Type 0 where
+  pub sink : Option InitialSink
+  pub written : List ℕ
+  pub fed : List ℕ
+  pub write_failed : Bool
+  pub stopped : Option Stop
+  pub left : ℕ
+
+abbrev pub stopped_by_dial : Option InitialSink → Option Stop
+stopped_by_dial None = Some causes.DialFault
+stopped_by_dial (Some sink) = None
+
+abbrev pub present_after : PresentLink → Entry → PresentLink
+present_after l (entries.Initial initial) = record l { sink = Some initial.sink }
+present_after l (entries.Wrote bytes) = record l { written = l.written ++ bytes }
+present_after l (entries.Fed bytes previous) = record l { fed = l.fed ++ bytes }
+present_after l entries.WriteFailed = record l { write_failed = true }
+present_after l (entries.Stopped cause previous) = record l { stopped = Some cause }
+present_after l (entries.OutOfMemory piece previous) = record l { fed = l.fed ++ piece; stopped = Some causes.Memory }
+present_after l (entries.Rejoin sink previous) = record { sink = sink; written = []; fed = []; write_failed = false; stopped = stopped_by_dial sink; left = l.left + 1 }
+present_after l entry = l
+
+abbrev pub present_from : PresentLink → List Entry → PresentLink
+present_from l [] = l
+present_from l (e ∷ es) = present_from (present_after l e) es
+
+abbrev pub no_link : PresentLink
+no_link = record { sink = None; written = []; fed = []; write_failed = false; stopped = None; left = 0 }
+
+abbrev pub present : List Entry → PresentLink
+present history = present_from no_link history
+
+-- the sink of the link at hand when its bytes began to move, unless its dial failed
+abbrev pub sink_of : List Entry → Option InitialSink
+sink_of history = (present history).sink
+
 abbrev pub link_written : List Entry → List ℕ
-link_written history = bytes_written (since history)
+link_written history = (present history).written
 
 abbrev pub link_fed : List Entry → List ℕ
-link_fed history = bytes_fed (since history)
+link_fed history = (present history).fed
 
--- ---- Why bytes don't move any more over the link at hand
+-- how often a lost link was left
+abbrev pub rejoins : List Entry → ℕ
+rejoins history = (present history).left
 
-abbrev pub first_of : {A : Type 0} → Option A → Option A → Option A
-first_of (Some x) y = Some x
-first_of None y = y
-
-abbrev pub write_failed : Entry → Bool
-write_failed entries.WriteFailed = true
-write_failed entry = false
-
--- a write failed
+-- a write failed over the link at hand
 abbrev pub has_write_failed : List Entry → Bool
-has_write_failed history = list_any write_failed (since history)
+has_write_failed history = (present history).write_failed
 
-abbrev pub stop_in : Entry → Option Stop
-stop_in (entries.Stopped cause previous) = Some cause
-stop_in (entries.OutOfMemory piece previous) = Some causes.Memory
-stop_in (entries.Rejoin None previous) = Some causes.DialFault
-stop_in entry = None
-
-abbrev pub first_stop : List Entry → Option Stop
-first_stop [] = None
-first_stop (e ∷ es) = first_of (stop_in e) (first_stop es)
-
--- why no more is fed
+-- why no more is fed over the link at hand
 abbrev pub stop_of : List Entry → Option Stop
-stop_of history = first_stop (since history)
+stop_of history = (present history).stopped
 
--- A read or a write failed, or the server ended its stream: the link is lost.
-abbrev pub is_loss : Option Stop → Bool
-is_loss (Some causes.LinkRead) = true
-is_loss (Some causes.Closed) = true
-is_loss stopped = false
+-- A read or a write failed, or the server ended its stream, and there is no other cause for which no more is fed: the link is lost.
+abbrev pub is_lost_by : (write_failed : Bool) → Option Stop → Bool
+is_lost_by failed None = failed
+is_lost_by failed (Some causes.LinkRead) = true
+is_lost_by failed (Some causes.Closed) = true
+is_lost_by failed (Some cause) = false
 
 abbrev pub is_lost : List Entry → Bool
-is_lost history = has_write_failed history || is_loss (stop_of history)
+is_lost history = is_lost_by (has_write_failed history) (stop_of history)
 
 -- ---- The calls
 

@@ -9,6 +9,7 @@ pub mod HandedBack
 pub mod Standing
 pub mod Callers
 pub mod Feeding
+pub mod Dialing
 pub mod Sharing
 pub mod Waiting
 pub mod Draining

@@ -1,5 +1,5 @@
 -- A requester that is shared, and what is given back at the end.
-use Rattle.std.specs.Prelude.{◌≡◌, ◌≢◌, ℕ, ◌+◌, ◌≤◌, List, [], ◌∷◌, length, Option, None, Some}
+use Rattle.std.specs.Prelude.{◌≡◌, ◌≢◌, ⊤, ℕ, ◌<◌, ◌+◌, ◌≤◌, List, [], ◌∷◌, length, Option, None, Some}
 use Rattle.nr_link.specs.declared.end.End.TheVariants as ends
 use Rattle.nr_links.specs.Limits.{read_max}
 use Rattle.nr_links.specs.Links.{LinkLog}
@@ -12,9 +12,9 @@ use Rattle.nr_shared.specs.declared.entry.Entry.{Entry}
 use Rattle.nr_shared.specs.declared.entry.Entry.TheVariants as entries
 use Rattle.nr_shared.specs.declared.entry.InitialSink.{InitialSink}
 use Rattle.nr_shared.specs.declared.entry.InitialState.{InitialState}
-use Rattle.nr_shared.specs.Histories.{AreAllowed, ClosesCalls, FeedsInOrder, IsUnclosed, bytes_fed, closes_of, has_rejoin, initial_of, rejoins, sink_of, stop_of, tries_of}
-use Rattle.nr_shared.specs.Standing.{KeepsCalls, KeepsSink, RejoinsWithin, RepresentsHistory, bytes_before}
-use Rattle.nr_shared.specs.Feeding.{InitialGiving, IsFirstGiving, KeepsDialer, KeepsSource}
+use Rattle.nr_shared.specs.Histories.{AreAllowed, ClosesCalls, FeedsInOrder, IsUnclosed, bytes_fed, closes_of, initial_of, present, rejoins, sink_of, stop_of}
+use Rattle.nr_shared.specs.Standing.{IsNumbered, KeepsCalls, KeepsSink, RejoinsWithin, RepresentsHistory, bytes_before}
+use Rattle.nr_shared.specs.Feeding.{InitialGiving, KeepsDialer, KeepsSource, shared_giving}
 use Rattle.nr_shared.specs.Output.{EntriesMayFollow, OutputBeforeInput, WritesInFull}
 
 -- The history has the initial state of this requester and this sink, and nothing else; a lost link may be dialled again so often. The requester hasn't run out of
@@ -29,14 +29,15 @@ pub record IsInitialHistory {O : Type 0} (link : O → ℕ) (taken : O → Optio
   pub sink_taken : initial.sink.taken ≡ taken sink
   pub sink_faults : initial.sink.faults ≡ faults sink
   pub tries_are : initial.tries ≡ tries
+  pub numbered : IsNumbered tries r.state
+  pub few : RejoinsWithin tries 0
 
--- a link that is given back, or none, for a link at hand and its sink when bytes began to move, or none
+-- a link that is given back, if there is one at hand
 abbrev pub GivesLink : {I O : Type 0} → (source_link : I → ℕ) → (left given : I → Option (List ℕ)) → (source_faults : I → ℕ) → (sink_link : O → ℕ) → (taken : O → Option (List ℕ)) → (sink_faults : O → ℕ)
     → (shared : InitialGiving) → (read : ℕ) → Option (I × O) → Option InitialSink → List Entry → Type 0
 GivesLink source_link left given source_faults sink_link taken sink_faults shared read (Some (source, sink)) (Some initial) history =
-    KeepsSink sink_link taken sink_faults sink initial history
-    × ((first : InitialGiving) × (IsFirstGiving shared (has_rejoin history) first × KeepsSource source_link left given source_faults source first initial read history))
-GivesLink source_link left given source_faults sink_link taken sink_faults shared read None None history = Unit {0}
+    KeepsSink sink_link taken sink_faults sink initial history × KeepsSource source_link left given source_faults shared source initial read (present history)
+GivesLink source_link left given source_faults sink_link taken sink_faults shared read None None history = ⊤
 GivesLink source_link left given source_faults sink_link taken sink_faults shared read link initial history = ⊥
 
 -- What is given back, by a caller that has seen this history and has these places, stands for a history that begins so and has the places; those that
@@ -61,8 +62,8 @@ pub record GivesBack {I O D : Type 0} (source_link : I → ℕ) (left given : I 
   pub output : OutputBeforeInput history
   pub in_full : WritesInFull history
   pub may_follow : EntriesMayFollow history
-  pub within_tries : RejoinsWithin (tries_of history) (rejoins history)
+  pub within_tries : RejoinsWithin initial.tries (rejoins history)
   pub fed : fed_bytes r ≤ fed_bytes initial.requester + length (bytes_fed history)
   pub read : read_before + length (bytes_fed history) ≤ read_max
-  pub link_is : GivesLink source_link left given source_faults sink_link taken sink_faults (record { left = left first; given = given first; faults = source_faults first }) (read_before + length (bytes_fed history)) link (sink_of history) history
-  pub dialer_is : KeepsDialer ended dialer_faults first_dialer dialer history
+  pub link_is : GivesLink source_link left given source_faults sink_link taken sink_faults (shared_giving left given source_faults first) (read_before + length (bytes_fed history)) link (sink_of history) history
+  pub dialer_is : KeepsDialer ended dialer_faults first_dialer dialer (present history)

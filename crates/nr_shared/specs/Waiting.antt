@@ -25,7 +25,7 @@ use Rattle.nr_shared.specs.declared.requester_with_sink.RequesterWithSink.{Reque
 use Rattle.nr_shared.specs.Adding.{Adds}
 use Rattle.nr_shared.specs.Callers.{KeepsOpen, KeepsOthers}
 use Rattle.nr_shared.specs.Draining.{AreWrites}
-use Rattle.nr_shared.specs.Ending.{CallEnded, HasEnded, IsCause}
+use Rattle.nr_shared.specs.Ending.{HasEnded, IsCause, LinkEnded}
 use Rattle.nr_shared.specs.HandedBack.{HavePlaced, IsAwaitedStill, IsLostWith, IsUnanswered, lost_entry}
 use Rattle.nr_shared.specs.Output.{HasWrittenOutput}
 
@@ -52,7 +52,7 @@ module _ {O C : Type 0} where
     pub keeps : KeepsOthers k p q
     pub before : List Entry
     pub seen : seen_by q ≡ before ++ entries.Forget xid k ∷ []
-    pub ended : CallEnded end before
+    pub ended : LinkEnded end before
     pub unanswered : IsUnanswered xid before
     pub written : HasWrittenOutput before
 
@@ -214,7 +214,7 @@ module _ {O C : Type 0} where
     pub keeps : KeepsOpen p q
     pub before : List Entry
     pub seen : seen_by q ≡ before ++ entries.Forget xid at ∷ []
-    pub ended : CallEnded end before
+    pub ended : LinkEnded end before
     pub unanswered : IsUnanswered xid before
     pub written : HasWrittenOutput before
 
