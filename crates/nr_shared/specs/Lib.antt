@@ -17,5 +17,4 @@ pub mod Ending
 pub mod Opening
 pub mod Laws
 pub mod Numbered
-pub mod Redialling
 pub mod private

@@ -4,12 +4,13 @@ ghost use Rattle.std.specs.Prelude.{◌≡◌, ◌≢◌, ◌+◌, ◌<◌, ◌�
 ghost use Rattle.nr_links.specs.Limits.{read_max};
 ghost use Rattle.nr_turnstile.specs.Passes.{Rests, home_of, id_of, seen_by, mine_of};
 ghost use Rattle.nr_turnstile.specs.Rule.{Lies};
-ghost use Rattle.nr_shared.specs.declared.entry.Stop.TheVariants as causes;
+ghost use Rattle.nr_shared.specs.declared.entry.Entry.TheVariants as entries;
 ghost use Rattle.nr_shared.specs.declared.source_reader.InitialSource.{InitialSource};
 ghost use Rattle.nr_shared.specs.Callers.{IsFeeding};
+ghost use Rattle.nr_shared.specs.Draining.{fed_entry};
 ghost use Rattle.nr_shared.specs.Feeding.{FeedsFor};
-ghost use Rattle.nr_shared.specs.Histories.{bytes_fed, stop_of};
-ghost use Rattle.nr_shared.specs.Redialling.{IsReadEnd};
+ghost use Rattle.nr_shared.specs.Histories.{bytes_fed, present, present_after, stop_of};
+ghost use Rattle.nr_shared.specs.private.Reading.{IsReadEnd, read_part};
 ghost use Rattle.nr_shared.specs.Output.{IsCallOutstanding, MayFeed};
 
 use crate::call_rule::CallRule;
@@ -119,7 +120,7 @@ impl<
         ensures feeding { IsFeeding feeding.new }
         ensures lies { Lies (seen_by feeding.new) (mine_of feeding.new) }
         ensures fed { bytes_fed (seen_by feeding.new) ≡ bytes_fed (seen_by feeding.old) ++ piece.now }
-        ensures stop { MatchBool result (stop_of (seen_by feeding.new) ≡ Some causes.Memory) (stop_of (seen_by feeding.new) ≡ None) }
+        ensures present { read_part (present (seen_by feeding.new)) ≡ present_after (read_part (present (seen_by feeding.old))) (fed_entry result piece.now 0) }
     {
         let mut turn = self.main.take_turn(rt, feeding);
         drain_under(&mut turn);
@@ -140,8 +141,8 @@ impl<
         ensures rests { Rests self.now.main feeding.new }
         ensures feeding { IsFeeding feeding.new }
         ensures lies { Lies (seen_by feeding.new) (mine_of feeding.new) }
-        ensures stopped { stop_of (seen_by feeding.new) ≡ Some cause }
         ensures fed { bytes_fed (seen_by feeding.new) ≡ bytes_fed (seen_by feeding.old) }
+        ensures present { read_part (present (seen_by feeding.new)) ≡ present_after (read_part (present (seen_by feeding.old))) (entries.Stopped cause 0) }
     {
         let mut turn = self.main.take_turn(rt, feeding);
         stop_under(&mut turn, cause);

@@ -9,15 +9,17 @@ ghost use Rattle.nr_shared.specs.declared.requester_with_sink.RequesterWithSink.
 ghost use Rattle.nr_shared.specs.Callers.{IsFeeding, IsReady};
 ghost use Rattle.nr_shared.specs.Draining.{initial_sink};
 ghost use Rattle.nr_shared.specs.Histories.{last_feeding};
-ghost use Rattle.nr_shared.specs.Output.{MayFeed, MayRejoin};
-ghost use Rattle.nr_shared.specs.Redialling.{DialsNext, HasLink, IsReopenEnd, IsUnmoved, Rejoins, StaysLost, cause_of_refusal};
+ghost use Rattle.nr_shared.specs.Output.{MayFeed, MayRejoin, MayStop};
+ghost use Rattle.nr_shared.specs.Dialing.{CannotReopen, DialsNext, HasLink, Rejoins, Stays};
+ghost use Rattle.nr_shared.specs.private.Reading.{IsUnmoved, Redials, cause_of_refusal};
 ghost use Rattle.nr_shared.specs.Standing.{Stands};
 
-use crate::appending::{append_rejoin, append_stopped};
+use crate::appending::append_rejoin;
 use crate::call_rule::CallRule;
 use crate::caller_turns::{Need, need_under};
 use crate::entry::Stop;
 use crate::requester_with_sink::{MainTurn, RequesterWithSink};
+use crate::turns::stop_under;
 use nr_links::{Dialer, LinkSink, LinkSource};
 use nr_reduce::Refused;
 use nr_requester::Ticket;
@@ -43,8 +45,8 @@ fn next_link<I: LinkSource + Drop, O: LinkSink + Drop, D: Dialer<Source = I, Sin
     dialer: &mut D,
     addr: &str,
 )
-    requires { HasLink I.link O.link (D.ended dialer.old) source.old sink.old }
-    ensures { DialsNext I.link I.left I.given I.faults O.link O.taken O.faults D.asked D.ended D.faults source.old sink.old dialer.old addr.now source.new sink.new dialer.new }
+    requires { HasLink I.link O.link D.ended source.old sink.old dialer.old }
+    ensures { DialsNext I.link I.left I.given I.faults O.link O.taken O.faults D.asked D.ended D.faults source.old source.new sink.old sink.new dialer.old dialer.new addr.now }
 {
     if let (Some(source), Some(sink)) = (source.take(), sink.take()) {
         dialer.hang_up(source, sink);
@@ -56,7 +58,7 @@ fn next_link<I: LinkSource + Drop, O: LinkSink + Drop, D: Dialer<Source = I, Sin
 }
 
 impl<O: LinkSink + Drop, C: CallRule> RequesterWithSink<O, C> {
-    /// Leaves the lost link, and dials the next one. If the requester can't be reopened, the link is the last one: why is kept.
+    /// Leaves the lost link, and dials the next one. Nothing changes if the requester can't be reopened.
     fn redial<I: LinkSource + Drop, D: Dialer<Source = I, Sink = O>>(
         &mut self,
         source: &mut Option<I>,
@@ -64,20 +66,15 @@ impl<O: LinkSink + Drop, C: CallRule> RequesterWithSink<O, C> {
         addr: &str,
     ) -> Result<(), Stop>
         requires stands { (history : List Entry) × (Stands O.link O.taken O.faults C.allows self.old history × MayRejoin history) }
-        requires link { HasLink I.link O.link (D.ended dialer.old) source.old self.old.sink }
+        requires link { HasLink I.link O.link D.ended source.old self.old.sink dialer.old }
         ensures rejoined { OnOk result ((history : List Entry) (last : ℕ) → Stands O.link O.taken O.faults C.allows self.old history → last_feeding history ≡ Some last → MayRejoin history →
             Stands O.link O.taken O.faults C.allows self.new (history ++ entries.Rejoin (initial_sink O.link O.taken O.faults self.new.sink) last ∷ [])) }
-        ensures next { OnOk result (DialsNext I.link I.left I.given I.faults O.link O.taken O.faults D.asked D.ended D.faults source.old self.old.sink dialer.old addr.now source.new self.new.sink dialer.new) }
-        ensures refused { IfErr result (λ cause. (history : List Entry) (last : ℕ) → Stands O.link O.taken O.faults C.allows self.old history → last_feeding history ≡ Some last → MayRejoin history →
-            Stands O.link O.taken O.faults C.allows self.new (history ++ entries.Stopped cause last ∷ [])) }
-        ensures cause { IfErr result IsReopenEnd }
-        ensures unmoved { OnErr result ((self.new.sink ≡ self.old.sink) × ((source.new ≡ source.old) × (dialer.new ≡ dialer.old))) }
+        ensures next { OnOk result (DialsNext I.link I.left I.given I.faults O.link O.taken O.faults D.asked D.ended D.faults source.old source.new self.old.sink self.new.sink dialer.old dialer.new addr.now) }
+        ensures refused { IfErr result (λ cause. CannotReopen cause × ((history : List Entry) → Stands O.link O.taken O.faults C.allows self.old history → MayRejoin history → MayStop cause history)) }
+        ensures unchanged { OnErr result ((self.new ≡ self.old) × ((source.new ≡ source.old) × (dialer.new ≡ dialer.old))) }
     {
         if let Err(refused) = self.requester.reopen() {
-            let cause = Stop::of_reopening(refused);
-            self.stopped = Some(cause);
-            self.entries += 1;
-            return Err(cause);
+            return Err(Stop::of_reopening(refused));
         }
         next_link(source, &mut self.sink, dialer, addr);
         self.rejoined += 1;
@@ -108,12 +105,11 @@ fn redial_under<
     requires ready { IsReady O.link O.taken O.faults C.allows turn.old }
     requires feeding { IsFeeding (pass_of turn.old) }
     requires may { MayRejoin (seen_by (pass_of turn.old)) }
-    requires link { (y : RequesterWithSink O C) → Has turn.old y → HasLink I.link O.link (D.ended dialer.old) source.old y.sink }
+    requires link { (y : RequesterWithSink O C) → Has turn.old y → HasLink I.link O.link D.ended source.old y.sink dialer.old }
     ensures same { IsSameTurn turn.old turn.new }
     ensures ready { IsReady O.link O.taken O.faults C.allows turn.new }
     ensures feeding { IsFeeding (pass_of turn.new) }
-    ensures redialled { Rejoins I.link I.left I.given I.faults O.link O.taken O.faults D.asked D.ended D.faults (pass_of turn.old) (pass_of turn.new) source.old dialer.old addr.now source.new dialer.new
-        ⊎ StaysLost (pass_of turn.old) (pass_of turn.new) source.old dialer.old source.new dialer.new }
+    ensures redialled { Redials I.link I.left I.given I.faults O.link O.taken O.faults D.asked D.ended D.faults turn.old turn.new source.old source.new dialer.old dialer.new addr.now }
 {
     let with_sink = turn.value();
     match with_sink.redial(source, dialer, addr) {
@@ -121,7 +117,7 @@ fn redial_under<
             let sink = Snapshot::of(&with_sink.sink);
             append_rejoin::<O, C, Brand>(turn, &sink);
         }
-        Err(cause) => append_stopped::<O, C, Brand>(turn, cause),
+        Err(cause) => stop_under(turn, cause),
     }
 }
 
@@ -140,14 +136,13 @@ pub(crate) fn input_or_link_under<
 ) -> bool
     requires ready { IsReady O.link O.taken O.faults C.allows turn.old }
     requires feeding { IsFeeding (pass_of turn.old) }
-    requires link { (y : RequesterWithSink O C) → Has turn.old y → HasLink I.link O.link (D.ended dialer.old) source.old y.sink }
+    requires link { (y : RequesterWithSink O C) → Has turn.old y → HasLink I.link O.link D.ended source.old y.sink dialer.old }
     ensures same { IsSameTurn turn.old turn.new }
     ensures ready { IsReady O.link O.taken O.faults C.allows turn.new }
     ensures feeding { IsFeeding (pass_of turn.new) }
     ensures input { result ≡ true → IsUnmoved (pass_of turn.old) (pass_of turn.new) source.old source.new dialer.old dialer.new × MayFeed (seen_by (pass_of turn.new)) }
     ensures other { result ≡ false → IsUnmoved (pass_of turn.old) (pass_of turn.new) source.old source.new dialer.old dialer.new
-        ⊎ Rejoins I.link I.left I.given I.faults O.link O.taken O.faults D.asked D.ended D.faults (pass_of turn.old) (pass_of turn.new) source.old dialer.old addr.now source.new dialer.new
-        ⊎ StaysLost (pass_of turn.old) (pass_of turn.new) source.old dialer.old source.new dialer.new }
+        ⊎ Redials I.link I.left I.given I.faults O.link O.taken O.faults D.asked D.ended D.faults turn.old turn.new source.old source.new dialer.old dialer.new addr.now }
 {
     match need_under(turn, ticket) {
         Need::Nothing => false,

@@ -110,8 +110,7 @@ impl<O: LinkSink + Drop, C: CallRule> RequesterWithSink<O, C> {
     ghost use Rattle.nr_requester.specs.OpenCalls.{KeepsTickets};
     ghost use Rattle.nr_shared.specs.Ending.{LinkEnded};
     ghost use Rattle.nr_shared.specs.Opening.{IsInitialHistory};
-    ghost use Rattle.nr_shared.specs.Output.{IsCallOutstanding};
-    ghost use Rattle.nr_shared.specs.Redialling.{IsReadEnd};
+    ghost use Rattle.nr_shared.specs.Output.{IsCallOutstanding, MayStop};
 
     /// A requester that is shared, with its sink. Output may be pending.
     pub(crate) fn of_parts(
@@ -267,12 +266,11 @@ impl<O: LinkSink + Drop, C: CallRule> RequesterWithSink<O, C> {
         }
     }
 
-    /// No more is fed, though a call is outstanding.
+    /// No more is fed over the link at hand, though a call is outstanding.
     pub(crate) fn stop(&mut self, cause: Stop)
-        requires cause { IsReadEnd cause }
-        requires goes { self.old.stopped ≡ None }
-        requires stands { (history : List Entry) × Stands O.link O.taken O.faults C.allows self.old history }
-        ensures stopped { (history : List Entry) (last : ℕ) → Stands O.link O.taken O.faults C.allows self.old history → last_feeding history ≡ Some last → IsCallOutstanding history →
+        requires cause { cause ≢ causes.Memory }
+        requires stands { (history : List Entry) × (Stands O.link O.taken O.faults C.allows self.old history × MayStop cause history) }
+        ensures stopped { (history : List Entry) (last : ℕ) → Stands O.link O.taken O.faults C.allows self.old history → last_feeding history ≡ Some last → MayStop cause history →
             Stands O.link O.taken O.faults C.allows self.new (history ++ entries.Stopped cause last ∷ []) }
     {
         self.stopped = Some(cause);

@@ -6,7 +6,7 @@ ghost use Rattle.nr_outside.specs.Content.{HandsOut};
 ghost use Rattle.nr_outside.specs.Faults.{Rises};
 ghost use Rattle.nr_links.specs.Limits.{piece_max, read_max};
 ghost use Rattle.nr_shared.specs.Feeding.{StopHolds};
-ghost use Rattle.nr_shared.specs.Redialling.{IsReadEnd};
+ghost use Rattle.nr_shared.specs.private.Reading.{IsReadEnd};
 ghost use Rattle.nr_shared.specs.declared.entry.Stop.TheVariants as causes;
 
 use crate::call_rule::CallRule;

@@ -18,8 +18,8 @@ ghost use Rattle.nr_shared.specs.Adding.{Adds};
 ghost use Rattle.nr_shared.specs.Callers.{Writes};
 ghost use Rattle.nr_shared.specs.Waiting.{ForgetsCall, IsTakeTurn, RevokesCall};
 ghost use Rattle.nr_shared.specs.Draining.{fed_after, stopped_after};
-ghost use Rattle.nr_shared.specs.Output.{IsCallOutstanding};
-ghost use Rattle.nr_shared.specs.Redialling.{IsReadEnd};
+ghost use Rattle.nr_shared.specs.Output.{IsCallOutstanding, MayStop};
+ghost use Rattle.nr_shared.specs.declared.entry.Stop.TheVariants as causes;
 ghost use Rattle.nr_links.specs.Limits.{read_max};
 
 use crate::appending::{
@@ -177,13 +177,12 @@ pub(crate) fn feed_under<O: LinkSink + Drop, C: CallRule>(
     out_of_memory
 }
 
-/// No more is fed.
+/// No more is fed over the link at hand.
 pub(crate) fn stop_under<O: LinkSink + Drop, C: CallRule>(turn: &mut MainTurn<'_, O, C>, cause: Stop)
     requires ready { IsReady O.link O.taken O.faults C.allows turn.old }
     requires feeding { IsFeeding (pass_of turn.old) }
-    requires goes { (y : RequesterWithSink O C) → Has turn.old y → y.stopped ≡ None }
-    requires cause { IsReadEnd cause }
-    requires outstanding { IsCallOutstanding (seen_by (pass_of turn.old)) }
+    requires cause { cause ≢ causes.Memory }
+    requires may { MayStop cause (seen_by (pass_of turn.old)) }
     ensures same { IsSameTurn turn.old turn.new }
     ensures ready { IsReady O.link O.taken O.faults C.allows turn.new }
     ensures feeding { IsFeeding (pass_of turn.new) }
