@@ -11,8 +11,6 @@ use Rattle.nr_reduce.specs.Events.{events}
 use Rattle.nr_reduce.specs.History.{bytes_received}
 use Rattle.nr_reduce.specs.Opening.{IsFirstLink}
 use Rattle.nr_reduce.specs.SubmitAnswer.{calls_to_resend}
-use Rattle.nr_reduce.specs.History.{bytes_received}
-use Rattle.nr_reduce.specs.KeptClient.{CanResume}
 use Rattle.nr_reduce.specs.Run.{client}
 use Rattle.nr_reduce.specs.Standing.{ClientRunsOut}
 use Rattle.nr_requester.specs.declared.answer.AnsweredCall.{AnsweredCall}
@@ -44,18 +42,6 @@ pub record RequesterKeeps (is_own : ℕ → Bool) (earlier : ℕ) (opened : Link
   pub answers : AnswersWith (map as_accepted opened.resumed) opened link (own_side is_own h) run
   pub counted : h.marks ≡ min (earlier + marks_of link run) marks_max
   pub resent : calls_to_resend (client opened link run) ≡ []
-
--- A requester that ran out of memory while it was fed, on a link that may be one that was reopened: as `RequesterRunsOut`, by the answers that belong to the link and the marks
--- since it began.
-pub record RequesterStops (is_own : ℕ → Bool) (earlier : ℕ) (opened : LinkParameters) (link : ℕ) (h : RequesterSide) (stopped run : List Mark) : Type 0 where
-  pub resumes : CanResume opened.resumed opened.first_xid
-  pub out : ClientRunsOut opened link (kept_client h.state) (queue_of h.state) stopped run
-  pub received : bytes_received link Initiator run ≡ bytes_received link Initiator stopped
-  pub written : ℕ
-  pub same : client opened link run ≡ live (record (client opened link stopped).state { written = written })
-  pub calls : HasOwnCalls is_own h.state
-  pub answers : AnswersWith (map as_accepted opened.resumed) opened link (own_side is_own h) run
-  pub counted : h.marks ≡ min (earlier + marks_of link run) marks_max
 
 -- For every list of marks that the first one stood for, the second stands for that list with one mark more.
 abbrev pub KeepsOn : RequesterSide → (ℕ → Mark) → RequesterSide → Type 0
