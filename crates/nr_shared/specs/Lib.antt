@@ -16,4 +16,5 @@ pub mod Draining
 pub mod Ending
 pub mod Opening
 pub mod Laws
+pub mod Numbered
 pub mod private

@@ -3,3 +3,4 @@ pub mod CreditState
 pub mod Flushed
 pub mod Taking
 pub mod Needs
+pub mod Reading

@@ -11,7 +11,7 @@ use nr_reduce::Refused;
 /// Why a call of a shared requester has no answer. A call that was submitted is forgotten then.
 #[derive(Clone, Copy)]
 pub enum CallEnd {
-    /// The requester has ended: the server broke the protocol or sent a Terminate, or memory ran out for a frame.
+    /// The requester has ended: the server broke the protocol or sent a Terminate, or memory ran out for a frame or for the next link.
     Ended(End),
     /// A read of the link failed, and it isn't dialled again.
     LinkRead,
@@ -23,7 +23,7 @@ pub enum CallEnd {
     Tries { n: u32 },
     /// A dial failed.
     DialFault,
-    /// Fewer xids or STags are left than the call needs.
+    /// Fewer xids or STags are left than the call needs, or, once the link was lost, than the calls that would be sent again.
     Spent { left: u64, need: u64 },
     /// The call needs this many bytes, more than the limit `room`.
     TooLarge { need: u128, room: u32 },

@@ -65,7 +65,7 @@ pub enum CreditState {
 }
 
 /// Takes the answer of a call of the pass's own, if it is there. If none comes any more, writes the output that is due, and forgets the call.
-pub(crate) fn poll_under<O: LinkSink, C: CallRule>(
+pub(crate) fn poll_under<O: LinkSink + Drop, C: CallRule>(
     turn: &mut MainTurn<'_, O, C>,
     ticket: Ticket,
 ) -> PollTurn
@@ -96,7 +96,7 @@ pub(crate) fn poll_under<O: LinkSink, C: CallRule>(
 }
 
 /// Whether a call may be submitted, or the link has ended.
-fn credit_state_under<O: LinkSink, C: CallRule>(turn: &mut MainTurn<'_, O, C>) -> CreditState
+fn credit_state_under<O: LinkSink + Drop, C: CallRule>(turn: &mut MainTurn<'_, O, C>) -> CreditState
     requires ready { IsReady O.link O.taken O.faults C.allows turn.old }
     ensures same { IsSameTurn turn.old turn.new }
     ensures ready { IsReady O.link O.taken O.faults C.allows turn.new }
@@ -116,7 +116,7 @@ fn credit_state_under<O: LinkSink, C: CallRule>(turn: &mut MainTurn<'_, O, C>) -
 }
 
 /// Writes the output that is due. Then, if a call may be submitted, submits this one and writes it.
-pub(crate) fn submit_if_credit_under<O: LinkSink, C: CallRule>(
+pub(crate) fn submit_if_credit_under<O: LinkSink + Drop, C: CallRule>(
     turn: &mut MainTurn<'_, O, C>,
     call: Call,
     form: Form,
@@ -147,7 +147,7 @@ pub(crate) fn submit_if_credit_under<O: LinkSink, C: CallRule>(
 }
 
 /// What is needed: nothing, if the link has ended, no call is outstanding, the answer of the call is there, or one may be submitted.
-pub(crate) fn need_under<O: LinkSink, C: CallRule>(
+pub(crate) fn need_under<O: LinkSink + Drop, C: CallRule>(
     turn: &mut MainTurn<'_, O, C>,
     ticket: Option<&Ticket>,
 ) -> Need
@@ -179,7 +179,7 @@ pub(crate) fn need_under<O: LinkSink, C: CallRule>(
 }
 
 /// Whether a call may be submitted.
-pub(crate) fn credit_under<O: LinkSink, C: CallRule>(turn: &mut MainTurn<'_, O, C>) -> bool
+pub(crate) fn credit_under<O: LinkSink + Drop, C: CallRule>(turn: &mut MainTurn<'_, O, C>) -> bool
     requires ready { IsReady O.link O.taken O.faults C.allows turn.old }
     ensures same { IsSameTurn turn.old turn.new }
     ensures ready { IsReady O.link O.taken O.faults C.allows turn.new }

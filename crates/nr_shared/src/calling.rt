@@ -20,12 +20,12 @@ use nr_reduce::{Call, Form};
 use nr_requester::{Done, Ticket};
 use std::sync::Wait;
 
-impl<I: LinkSource, O: LinkSink, C: CallRule, D: Dialer<Source = I, Sink = O>> SharedRequester<
-    I,
-    O,
-    C,
-    D,
-> {
+impl<
+    I: LinkSource + Drop,
+    O: LinkSink + Drop,
+    C: CallRule,
+    D: Dialer<Source = I, Sink = O>,
+> SharedRequester<I, O, C, D> {
     /// Makes a call that the rule allows, and waits for its outcome. It is submitted once a credit is left, and, if the client has a
     /// number, its xid is less than 64 above the least one of an outstanding call. If there is no outcome, a call that was submitted is forgotten.
     pub fn call<R: Wait>(
@@ -78,9 +78,7 @@ impl<I: LinkSource, O: LinkSink, C: CallRule, D: Dialer<Source = I, Sink = O>> S
                     unsent_form = form;
                 }
             }
-            if let Err(end) = self.receive(rt, &mut pass.source, None) {
-                return Err(end);
-            }
+            self.receive(rt, &mut pass.source, None);
         }
         unreachable!()
     }
@@ -123,36 +121,9 @@ impl<I: LinkSource, O: LinkSink, C: CallRule, D: Dialer<Source = I, Sink = O>> S
                 PollTurn::Ended(end) => return Err(end),
                 PollTurn::NotYet(ticket) => waiting = ticket,
             }
-            if let Err(end) = self.receive(rt, &mut pass.source, Some(&waiting)) {
-                return self.give_up(rt, pass, waiting, end);
-            }
+            self.receive(rt, &mut pass.source, Some(&waiting));
         }
         unreachable!()
-    }
-
-    // The link can't be left. The answer may have come in a turn of another caller; if not, the call is forgotten.
-    fn give_up<R: Wait>(
-        &self,
-        rt: &R,
-        pass: &mut Pass<I, O, C, D>,
-        ticket: Ticket,
-        end: CallEnd,
-    ) -> Result<Done, CallEnd>
-        requires rests { SharedRests self.now pass.old }
-        requires has_call { HasOpenCall pass.old.main ticket }
-        requires cause { CannotReopen end (seen_by pass.old.main) }
-        ensures rests { SharedRests self.now pass.new }
-        ensures source { seen_by pass.new.source ≡ seen_by pass.old.source }
-        ensures waited { Awaits pass.old.main pass.new.main ticket result }
-    {
-        match self.poll_turn(rt, &mut pass.main, ticket) {
-            PollTurn::Answered(done) => Ok(done),
-            PollTurn::Ended(end) => Err(end),
-            PollTurn::NotYet(ticket) => {
-                self.forget_turn(rt, &mut pass.main, ticket);
-                Err(end)
-            }
-        }
     }
 
     /// Forgets a call of the pass's own, whether or not its answer has come.

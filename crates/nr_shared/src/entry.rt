@@ -17,6 +17,10 @@ pub enum Stop {
     Memory,
     /// A dial failed: there is no link any more.
     DialFault,
+    /// The link was lost, and fewer STags are left than the calls need that would be sent again.
+    Spent { left: u64, need: u64 },
+    /// The link was lost, and memory ran out for the next one.
+    NotReopened,
 }
 
 /// The sink of a link when its bytes began to move here.

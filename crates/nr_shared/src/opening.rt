@@ -1,12 +1,19 @@
 //! A requester is shared, and given back.
 
-ghost use Rattle.std.specs.Prelude.{◌≡◌, ◌≤◌, [], ◌∷◌, List, IfOk, IfErr};
+ghost use Rattle.std.specs.Prelude.{◌≡◌, ◌≢◌, ◌<◌, ◌≤◌, [], ◌∷◌, List, None, Some, IfOk, IfErr};
+ghost use Rattle.std.specs.Option.{option_map};
+ghost use Rattle.nr_outside.specs.Faults.{last_count};
+ghost use Rattle.nr_link.specs.declared.end.End.TheVariants as ends;
 ghost use Rattle.nr_links.specs.Limits.{read_max};
+ghost use Rattle.nr_requester.specs.Fed.{fed_bytes};
 ghost use Rattle.nr_turnstile.specs.Passes.{Rests, home_of, id_of, seen_by, mine_of};
 ghost use Rattle.nr_shared.specs.declared.source_reader.InitialSource.{InitialSource};
 ghost use Rattle.nr_shared.specs.Callers.{IsCaller};
 ghost use Rattle.nr_shared.specs.Feeding.{FeedsFor};
 ghost use Rattle.nr_shared.specs.Opening.{GivesBack, IsInitialHistory};
+ghost use Rattle.nr_shared.specs.Numbered.{IsBegun, IsNotShared, NumberedOpened, NumberedRefused};
+ghost use Rattle.nr_shared.specs.Standing.{Stands, bytes_before};
+ghost use Rattle.nr_shared.specs.declared.no_dialer.NoDialer.{NoDialer};
 ghost use Rattle.nr_shared.specs.Sharing.{SharedRests};
 
 use crate::appending::Appended;
@@ -56,17 +63,17 @@ impl<I: LinkSource, O: LinkSink, C: CallRule, D, K: SourceHistory<I, O, C, D>> O
 }
 
 /// A shared requester and a pass, or the requester that can't be shared for want of memory, with its link and its dialer.
-type Opened<I, O, C, D> = Result<
+type Shared<I, O, C, D> = Result<
     (SharedRequester<I, O, C, D>, Pass<I, O, C, D>),
     (Requester, Option<(I, O)>, D),
 >;
 
 /// Puts the source, with the pass that feeds, in a turnstile.
 fn share_reader<
-    I: LinkSource,
-    O: LinkSink,
+    I: LinkSource + Drop,
+    O: LinkSink + Drop,
     C: CallRule,
-    D: Dialer<Source = I, Sink = O>,
+    D: Dialer<Source = I, Sink = O> + Drop,
     K: SourceHistory<I, O, C, D>,
 >(
     alloc: Global,
@@ -81,10 +88,6 @@ fn share_reader<
     ),
     SourceReader<I, O, C, D>,
 >
-where
-    I: Drop,
-    O: Drop,
-    D: Drop,
     requires source_history { record { source = _source.now; dialer = _dialer.now; pass = _pass.now; read = reader.read } ∷ [] ≡ K.source_history }
     requires feeds { FeedsFor I.link I.left I.given I.faults D.ended D.faults (record { source = _source.now; dialer = _dialer.now; pass = _pass.now; read = reader.read }) reader }
     ensures ok { IfOk result (λ t. Rests t.0 t.1 × (seen_by t.1 ≡ record { source = _source.now; dialer = _dialer.now; pass = _pass.now; read = reader.read } ∷ [])) }
@@ -97,7 +100,13 @@ where
 }
 
 /// Takes the requester and the sink out of their turnstile, with the pass of a caller and the one that feeds. There is no link if the last dial failed.
-fn take_back<R: Wait, I: LinkSource, O: LinkSink, C: CallRule, D: Dialer<Source = I, Sink = O>>(
+fn take_back<
+    R: Wait,
+    I: LinkSource + Drop,
+    O: LinkSink + Drop,
+    C: CallRule,
+    D: Dialer<Source = I, Sink = O>,
+>(
     rt: &R,
     main: Turnstile<RequesterWithSink<O, C>>,
     mut caller: nr_turnstile::Pass<RequesterWithSink<O, C>>,
@@ -130,34 +139,27 @@ fn take_back<R: Wait, I: LinkSource, O: LinkSink, C: CallRule, D: Dialer<Source 
 fn share<
     H: OpeningHistory<Entry>,
     R: Wait,
-    I: LinkSource,
-    O: LinkSink,
+    I: LinkSource + Drop,
+    O: LinkSink + Drop,
     C: CallRule,
-    D: Dialer<Source = I, Sink = O>,
+    D: Dialer<Source = I, Sink = O> + Drop,
 >(
     rt: &R,
     alloc: Global,
-    requester: Requester,
-    link: (I, O),
+    with_sink: RequesterWithSink<O, C>,
+    source: I,
     dialer: D,
     addr: String,
-    tries: Option<u32>,
     read: u64,
-) -> Opened<I, O, C, D>
-where
-    I: Drop,
-    O: Drop,
-    D: Drop,
-    requires initial { IsInitialHistory O.link O.taken O.faults requester link.1 tries H.history }
+) -> Shared<I, O, C, D>
+    requires stands { Stands O.link O.taken O.faults C.allows with_sink H.history }
     requires read { read ≤ read_max }
-    requires link { (I.link link.0 ≡ O.link link.1) × HasOpenLink (D.ended dialer) }
+    requires begun { IsBegun I.link D.ended H.history source dialer }
     ensures rests { IfOk result (λ t. SharedRests t.0 t.1) }
     ensures seen { IfOk result (λ t. (seen_by t.1.main ≡ H.history) × (mine_of t.1.main ≡ [])) }
-    ensures source { IfOk result (λ t. (b : InitialSource I O C D) × ((seen_by t.1.source ≡ b ∷ []) × ((b.source.value ≡ link.0) × ((b.dialer.value ≡ dialer) × (b.read ≡ read))))) }
-    ensures err { IfErr result (λ back. GivesBack I.link I.left I.given I.faults O.link O.taken O.faults D.ended D.faults C.allows H.history [] link.0 dialer read back.0 back.1 back.2) }
+    ensures source { IfOk result (λ t. (b : InitialSource I O C D) × ((seen_by t.1.source ≡ b ∷ []) × ((b.source.value ≡ source) × ((b.dialer.value ≡ dialer) × (b.read ≡ read))))) }
+    ensures err { IfErr result (λ back. GivesBack I.link I.left I.given I.faults O.link O.taken O.faults D.ended D.faults C.allows H.history [] source dialer read back.0 back.1 back.2) }
 {
-    let (source, sink) = link;
-    let with_sink = RequesterWithSink::of_parts(requester, sink, tries);
     let Ok(buf) = vec![in alloc; 0u8; PIECE_MAX] else {
         return Err(given_back(with_sink, source, dialer));
     };
@@ -193,11 +195,15 @@ where
 }
 
 /// A requester that can't be shared, with its link and its dialer.
-fn given_back<I, O, C, D>(
+fn given_back<I: Drop, O: LinkSink + Drop, C: CallRule, D>(
     with_sink: RequesterWithSink<O, C>,
     source: I,
     dialer: D,
-) -> (Requester, Option<(I, O)>, D) {
+) -> (Requester, Option<(I, O)>, D)
+    ensures requester { result.0 ≡ with_sink.requester }
+    ensures link { result.1 ≡ option_map (λ sink. (source, sink)) with_sink.sink }
+    ensures dialer { result.2 ≡ dialer }
+{
     let RequesterWithSink {
         requester,
         sink,
@@ -209,19 +215,19 @@ fn given_back<I, O, C, D>(
     }
 }
 
-/// Why a requester with a number isn't shared: it comes back with its dialer. A link that was dialled is hung up.
+/// Why a requester with a number isn't shared.
 #[derive(Drop)]
 pub enum NotShared<D> {
-    /// The first dial failed.
+    /// The first dial failed. The requester and the dialer come back.
     DialFault(Requester, D),
-    /// Memory ran out.
+    /// Memory ran out. The requester and the dialer come back; if the link had been dialled, it was hung up.
     Memory(Requester, D),
 }
 
-impl<I: LinkSource, O: LinkSink, C: CallRule> SharedRequester<I, O, C, NoDialer<I, O>> {
-    /// Lets callers share a requester with its source and its sink. `H` names the history that it begins with, whose one entry is the initial
-    /// state. `read` is how many bytes of the source were read before: callers read what is left to the maximum. The pass has seen this
-    /// history, and nothing is its own. A lost link isn't dialled again. After out of memory all three come back.
+impl<I: LinkSource + Drop, O: LinkSink + Drop, C: CallRule> SharedRequester<I, O, C, NoDialer<I, O>> {
+    /// Lets callers share a requester with its source and its sink, which are those of one link. `H` names the history that it begins with, whose
+    /// one entry is the initial state. `read` is how many bytes of the source were read before: callers read what is left to the maximum. The pass
+    /// has seen this history, and nothing is its own. A lost link isn't dialled again. After out of memory all three come back.
     pub fn new<H: OpeningHistory<Entry>, R: Wait>(
         rt: &R,
         alloc: Global,
@@ -229,40 +235,86 @@ impl<I: LinkSource, O: LinkSink, C: CallRule> SharedRequester<I, O, C, NoDialer<
         source: I,
         sink: O,
         read: u64,
-    ) -> Opened<I, O, C, NoDialer<I, O>>
-    where
-        I: Drop,
-        O: Drop,
+    ) -> Result<
+        (SharedRequester<I, O, C, NoDialer<I, O>>, Pass<I, O, C, NoDialer<I, O>>),
+        (Requester, I, O),
+    >
         requires initial { IsInitialHistory O.link O.taken O.faults requester sink None H.history }
         requires read { read ≤ read_max }
         requires link { I.link source ≡ O.link sink }
         ensures rests { IfOk result (λ t. SharedRests t.0 t.1) }
         ensures seen { IfOk result (λ t. (seen_by t.1.main ≡ H.history) × (mine_of t.1.main ≡ [])) }
         ensures source { IfOk result (λ t. (b : InitialSource I O C (NoDialer I O)) × ((seen_by t.1.source ≡ b ∷ []) × ((b.source.value ≡ source) × (b.read ≡ read)))) }
-        ensures err { IfErr result (λ back. GivesBack I.link I.left I.given I.faults O.link O.taken O.faults NoDialer.ended NoDialer.faults C.allows H.history [] source back.2 read back.0 back.1 back.2) }
+        ensures err { IfErr result (λ back. (d : NoDialer I O) × GivesBack I.link I.left I.given I.faults O.link O.taken O.faults (λ _. None) (λ _. last_count) C.allows H.history [] source d read back.0 (Some (back.1, back.2)) d) }
     {
-        share::<H, R, I, O, C, NoDialer<I, O>>(
+        let with_sink = RequesterWithSink::of_parts(requester, sink, None);
+        match share::<H, R, I, O, C, NoDialer<I, O>>(
             rt,
             alloc,
-            requester,
-            (source, sink),
+            with_sink,
+            source,
             NoDialer::new(),
             String::new(alloc),
-            None,
             read,
-        )
+        ) {
+            Ok(opened) => Ok(opened),
+            Err((requester, link, _)) => match link {
+                Some((source, sink)) => Err((requester, source, sink)),
+                None => unreachable!(),
+            },
+        }
     }
 }
 
-impl<I: LinkSource, O: LinkSink, C: CallRule, D: Dialer<Source = I, Sink = O>> SharedRequester<
-    I,
-    O,
-    C,
-    D,
-> {
-    /// Dials a link to this address, and lets callers share a requester with a number over it. If the link is lost, it is hung up, and the next
-    /// one is dialled, at most `tries` times in all; the calls that weren't answered are sent again. `H` names the history that it begins with.
-    pub fn new_numbered<H: OpeningHistory<Entry>, R: Wait>(
+/// Shares a requester over a link that was just dialled. If memory runs out, the link is hung up.
+fn share_dialled<
+    K: Appended,
+    R: Wait,
+    I: LinkSource + Drop,
+    O: LinkSink + Drop,
+    C: CallRule,
+    D: Dialer<Source = I, Sink = O> + Drop,
+>(
+    rt: &R,
+    alloc: Global,
+    requester: Requester,
+    source: I,
+    sink: O,
+    dialer: D,
+    addr: String,
+    tries: u32,
+) -> Result<(SharedRequester<I, O, C, D>, Pass<I, O, C, D>), NotShared<D>>
+    requires initial { IsInitialHistory O.link O.taken O.faults requester sink (Some tries) (K.entry ∷ []) × (tries ≤ 16) }
+    requires begun { IsBegun I.link D.ended (K.entry ∷ []) source dialer }
+    ensures rests { IfOk result (λ t. SharedRests t.0 t.1) }
+    ensures seen { IfOk result (λ t. (seen_by t.1.main ≡ K.entry ∷ []) × (mine_of t.1.main ≡ [])) }
+    ensures source { IfOk result (λ t. (b : InitialSource I O C D) × ((seen_by t.1.source ≡ b ∷ []) × ((b.source.value ≡ source) × ((b.dialer.value ≡ dialer) × (b.read ≡ 0))))) }
+    ensures err { IfErr result (NumberedRefused I.link I.left I.given I.faults O.link O.taken O.faults D.ended D.faults C.allows (K.entry ∷ []) source dialer) }
+{
+    let with_sink = RequesterWithSink::of_parts(requester, sink, Some(tries));
+    match share::<InitialHistory<K>, R, I, O, C, D>(
+        rt, alloc, with_sink, source, dialer, addr, 0,
+    ) {
+        Ok(opened) => Ok(opened),
+        Err((requester, link, mut dialer)) => {
+            if let Some((source, sink)) = link {
+                dialer.hang_up(source, sink);
+            }
+            Err(NotShared::Memory(requester, dialer))
+        }
+    }
+}
+
+impl<
+    I: LinkSource + Drop,
+    O: LinkSink + Drop,
+    C: CallRule,
+    D: Dialer<Source = I, Sink = O>,
+> SharedRequester<I, O, C, D> {
+    /// Dials a link to this address, and lets callers share a requester with a number over it. If the link is lost, it is hung up and the next one
+    /// is dialled, at most `tries` times in all, and the calls that weren't answered are sent again. The pass has seen the initial state, and
+    /// nothing is its own.
+    pub fn new_numbered<R: Wait>(
         rt: &R,
         alloc: Global,
         requester: Requester,
@@ -271,34 +323,23 @@ impl<I: LinkSource, O: LinkSink, C: CallRule, D: Dialer<Source = I, Sink = O>> S
         tries: u32,
     ) -> Result<(SharedRequester<I, O, C, D>, Pass<I, O, C, D>), NotShared<D>>
     where
-        I: Drop,
-        O: Drop,
         D: Drop,
         requires number { 0 < requester.state.side.terms.number }
         requires tries { tries ≤ 16 }
-        requires initial { (sink : O) (link : ℕ) → IsNewSink O.taken O.faults sink → O.link sink ≡ link → IsInitialHistory O.link O.taken O.faults requester sink (Some tries) H.history }
+        requires memory { requester.state.side.ended ≢ Some ends.Memory }
+        requires fed { fed_bytes requester ≤ bytes_before }
         ensures rests { IfOk result (λ t. SharedRests t.0 t.1) }
-        ensures seen { IfOk result (λ t. (seen_by t.1.main ≡ H.history) × (mine_of t.1.main ≡ [])) }
-        ensures dialed { NumberedOpened result D.asked D.ended D.faults dialer requester addr }
+        ensures opened { IfOk result (λ t. NumberedOpened I.link I.given I.faults D.asked D.ended D.faults requester dialer addr.now tries t.1) }
+        ensures err { IfErr result (IsNotShared I.link I.left I.given I.faults O.link O.taken O.faults D.asked D.ended D.faults C.allows requester dialer addr.now tries) }
     {
         let Ok(kept) = String::from_str(alloc, addr) else {
             return Err(NotShared::Memory(requester, dialer));
         };
-        let link = match dialer.dial(addr) {
-            Ok(link) => link,
-            Err(_) => {
-                drop(kept);
-                return Err(NotShared::DialFault(requester, dialer));
-            }
-        };
-        match share::<H, R, I, O, C, D>(rt, alloc, requester, link, dialer, kept, Some(tries), 0) {
-            Ok(opened) => Ok(opened),
-            Err((requester, link, mut dialer)) => {
-                if let Some((source, sink)) = link {
-                    dialer.hang_up(source, sink);
-                }
-                Err(NotShared::Memory(requester, dialer))
-            }
+        match dialer.dial(addr) {
+            Ok((source, sink)) => share_dialled::<Brand, R, I, O, C, D>(
+                rt, alloc, requester, source, sink, dialer, kept, tries,
+            ),
+            Err(_) => Err(NotShared::DialFault(requester, dialer)),
         }
     }
 

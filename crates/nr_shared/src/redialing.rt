@@ -1,127 +1,155 @@
 //! A lost link is left, and the next one is dialled.
 
-ghost use Rattle.std.specs.Prelude.{◌≡◌, ◌≢◌, [], ◌∷◌, ◌++◌, None, IfErr, OnOk, OnErr};
-ghost use Rattle.nr_turnstile.specs.Passes.{Rests, home_of, id_of, mine_of, seen_by};
-ghost use Rattle.nr_turnstile.specs.Turns.{IsSameTurn, pass_of};
-ghost use Rattle.nr_shared.specs.Adding.{Adds};
+ghost use Rattle.std.specs.Prelude.{◌≡◌, ◌⊎◌, ℕ, [], ◌∷◌, ◌++◌, List, Some, true, false, IfErr, OnOk, OnErr};
+ghost use Rattle.nr_turnstile.specs.Passes.{seen_by};
+ghost use Rattle.nr_turnstile.specs.Turns.{Has, IsSameTurn, pass_of};
+ghost use Rattle.nr_shared.specs.declared.entry.Entry.{Entry};
+ghost use Rattle.nr_shared.specs.declared.entry.Entry.TheVariants as entries;
+ghost use Rattle.nr_shared.specs.declared.requester_with_sink.RequesterWithSink.{RequesterWithSink};
 ghost use Rattle.nr_shared.specs.Callers.{IsFeeding, IsReady};
-ghost use Rattle.nr_shared.specs.Draining.{rejoined_after};
-ghost use Rattle.nr_shared.specs.Ending.{CannotReopen, is_lost};
-ghost use Rattle.nr_shared.specs.Feeding.{FeedsFor, HasLink, Redials};
-ghost use Rattle.nr_shared.specs.Histories.{rejoins, since, tries_of};
-ghost use Rattle.nr_shared.specs.declared.source_reader.InitialSource.{InitialSource};
+ghost use Rattle.nr_shared.specs.Draining.{initial_sink};
+ghost use Rattle.nr_shared.specs.Histories.{last_feeding};
+ghost use Rattle.nr_shared.specs.Output.{MayFeed, MayRejoin, MayStop};
+ghost use Rattle.nr_shared.specs.Dialing.{CannotReopen, DialsNext, HasLink, Rejoins, Stays};
+ghost use Rattle.nr_shared.specs.private.Reading.{IsUnmoved, Redials, cause_of_refusal};
+ghost use Rattle.nr_shared.specs.Standing.{Stands};
 
 use crate::appending::append_rejoin;
-use crate::call_end::CallEnd;
 use crate::call_rule::CallRule;
+use crate::caller_turns::{Need, need_under};
+use crate::entry::Stop;
 use crate::requester_with_sink::{MainTurn, RequesterWithSink};
-use crate::shared::SharedRequester;
-use crate::source_reader::SourceReader;
+use crate::turns::stop_under;
 use nr_links::{Dialer, LinkSink, LinkSource};
 use nr_reduce::Refused;
+use nr_requester::Ticket;
 use std::marker::Brand;
 use std::snapshot::Snapshot;
-use std::sync::Wait;
 
-impl CallEnd {
-    /// The end of a call whose link can't be left: too few STags are left for the calls, or memory ran out.
-    fn of_reopening(refused: Refused) -> CallEnd {
+impl Stop {
+    /// Why a lost link is the last one: too few STags are left for the calls that would be sent again, or memory ran out.
+    fn of_reopening(refused: Refused) -> Stop
+        ensures { result ≡ cause_of_refusal refused }
+    {
         match refused {
-            Refused::Spent { left, need } => CallEnd::Spent { left, need },
-            _ => CallEnd::Memory,
+            Refused::Spent { left, need } => Stop::Spent { left, need },
+            _ => Stop::NotReopened,
         }
     }
 }
 
-impl<O: LinkSink, C: CallRule> RequesterWithSink<O, C> {
-    /// Leaves the lost link, with the requester: its output is for the next link. The sink comes back, if there is one.
-    fn leave(&mut self) -> Result<Option<O>, Refused>
-        ensures err { OnErr result (self.new ≡ self.old) }
+/// Hangs up a link, if there is one, and dials the next.
+fn next_link<I: LinkSource + Drop, O: LinkSink + Drop, D: Dialer<Source = I, Sink = O>>(
+    source: &mut Option<I>,
+    sink: &mut Option<O>,
+    dialer: &mut D,
+    addr: &str,
+)
+    requires { HasLink I.link O.link D.ended source.old sink.old dialer.old }
+    ensures { DialsNext I.link I.left I.given I.faults O.link O.taken O.faults D.asked D.ended D.faults source.old source.new sink.old sink.new dialer.old dialer.new addr.now }
+{
+    if let (Some(source), Some(sink)) = (source.take(), sink.take()) {
+        dialer.hang_up(source, sink);
+    }
+    if let Ok((next_source, next_sink)) = dialer.dial(addr) {
+        *source = Some(next_source);
+        *sink = Some(next_sink);
+    }
+}
+
+impl<O: LinkSink + Drop, C: CallRule> RequesterWithSink<O, C> {
+    /// Leaves the lost link, and dials the next one. Nothing changes if the requester can't be reopened.
+    fn redial<I: LinkSource + Drop, D: Dialer<Source = I, Sink = O>>(
+        &mut self,
+        source: &mut Option<I>,
+        dialer: &mut D,
+        addr: &str,
+    ) -> Result<(), Stop>
+        requires stands { (history : List Entry) × (Stands O.link O.taken O.faults C.allows self.old history × MayRejoin history) }
+        requires link { HasLink I.link O.link D.ended source.old self.old.sink dialer.old }
+        ensures rejoined { OnOk result ((history : List Entry) (last : ℕ) → Stands O.link O.taken O.faults C.allows self.old history → last_feeding history ≡ Some last → MayRejoin history →
+            Stands O.link O.taken O.faults C.allows self.new (history ++ entries.Rejoin (initial_sink O.link O.taken O.faults self.new.sink) last ∷ [])) }
+        ensures next { OnOk result (DialsNext I.link I.left I.given I.faults O.link O.taken O.faults D.asked D.ended D.faults source.old source.new self.old.sink self.new.sink dialer.old dialer.new addr.now) }
+        ensures refused { IfErr result (λ cause. CannotReopen cause × ((history : List Entry) → Stands O.link O.taken O.faults C.allows self.old history → MayRejoin history → MayStop cause history)) }
+        ensures unchanged { OnErr result ((self.new ≡ self.old) × ((source.new ≡ source.old) × (dialer.new ≡ dialer.old))) }
     {
-        self.requester.reopen()?;
+        if let Err(refused) = self.requester.reopen() {
+            return Err(Stop::of_reopening(refused));
+        }
+        next_link(source, &mut self.sink, dialer, addr);
         self.rejoined += 1;
         self.write_failed = false;
-        self.stopped = None;
+        self.stopped = if self.sink.is_none() {
+            Some(Stop::DialFault)
+        } else {
+            None
+        };
         self.pending = true;
-        Ok(self.sink.take())
-    }
-
-    /// Takes the sink of the next link; or there is none, since its dial failed.
-    fn join_link(&mut self, sink: Option<O>) {
-        if sink.is_none() {
-            self.stopped = Some(Stop::DialFault);
-        }
-        self.sink = sink;
         self.entries += 1;
+        Ok(())
     }
 }
 
-/// Under both turns: the requester is reopened, the lost link is hung up, and the next one is dialled. Nothing changes if the requester can't be reopened.
-fn redial_under<O: LinkSink, C: CallRule, I: LinkSource, D: Dialer<Source = I, Sink = O>>(
+/// Leaves the lost link, and dials the next one, under both turns; or the link is the last one, since the requester can't be reopened.
+fn redial_under<
+    I: LinkSource + Drop,
+    O: LinkSink + Drop,
+    C: CallRule,
+    D: Dialer<Source = I, Sink = O>,
+>(
     turn: &mut MainTurn<'_, O, C>,
     source: &mut Option<I>,
     dialer: &mut D,
     addr: &str,
-) -> Result<(), CallEnd>
+)
     requires ready { IsReady O.link O.taken O.faults C.allows turn.old }
     requires feeding { IsFeeding (pass_of turn.old) }
-    requires lost { is_lost (seen_by (pass_of turn.old)) ≡ true }
-    requires link { HasLink I.link D.ended (seen_by (pass_of turn.old)) source.old dialer.old }
+    requires may { MayRejoin (seen_by (pass_of turn.old)) }
+    requires link { (y : RequesterWithSink O C) → Has turn.old y → HasLink I.link O.link D.ended source.old y.sink dialer.old }
     ensures same { IsSameTurn turn.old turn.new }
     ensures ready { IsReady O.link O.taken O.faults C.allows turn.new }
     ensures feeding { IsFeeding (pass_of turn.new) }
-    ensures rejoined { OnOk result (Redials I.link I.given I.faults D.ended D.asked D.faults (pass_of turn.old) (pass_of turn.new) source.new dialer.old dialer.new addr.now) }
-    ensures err { IfErr result (λ end. CannotReopen end (seen_by (pass_of turn.old))) }
-    ensures unchanged { OnErr result ((seen_by (pass_of turn.new) ≡ seen_by (pass_of turn.old)) × ((source.new ≡ source.old) × (dialer.new ≡ dialer.old))) }
+    ensures redialled { Redials I.link I.left I.given I.faults O.link O.taken O.faults D.asked D.ended D.faults turn.old turn.new source.old source.new dialer.old dialer.new addr.now }
 {
     let with_sink = turn.value();
-    let left = match with_sink.leave() {
-        Ok(left) => left,
-        Err(refused) => return Err(CallEnd::of_reopening(refused)),
-    };
-    if let (Some(source), Some(sink)) = (source.take(), left) {
-        dialer.hang_up(source, sink);
-    }
-    let joined = match dialer.dial(addr) {
-        Ok((next, sink)) => {
-            *source = Some(next);
-            Some(sink)
+    match with_sink.redial(source, dialer, addr) {
+        Ok(()) => {
+            let sink = Snapshot::of(&with_sink.sink);
+            append_rejoin::<O, C, Brand>(turn, &sink);
         }
-        Err(_) => None,
-    };
-    let known = Snapshot::of(&joined);
-    with_sink.join_link(joined);
-    append_rejoin::<O, C, Brand>(turn, &known);
-    Ok(())
+        Err(cause) => stop_under(turn, cause),
+    }
 }
 
-impl<I: LinkSource, O: LinkSink, C: CallRule, D: Dialer<Source = I, Sink = O>> SharedRequester<
-    I,
-    O,
-    C,
-    D,
-> {
-    // Both turns: the source's is held. The link is lost, and may be dialled again.
-    pub(crate) fn redial<R: Wait>(
-        &self,
-        rt: &R,
-        reader: &mut SourceReader<I, O, C, D>,
-    ) -> Result<(), CallEnd>
-        requires reads { (b : InitialSource I O C D) × (FeedsFor I.link I.left I.given I.faults D.ended D.faults b reader.old × (home_of b.pass.value ≡ id_of self.now.main)) }
-        requires lost { is_lost (seen_by reader.old.pass) ≡ true }
-        ensures reads { (b : InitialSource I O C D) → FeedsFor I.link I.left I.given I.faults D.ended D.faults b reader.old → home_of b.pass.value ≡ id_of self.now.main → FeedsFor I.link I.left I.given I.faults D.ended D.faults b reader.new }
-        ensures err { IfErr result (λ end. CannotReopen end (seen_by reader.new.pass)) }
-    {
-        let SourceReader {
-            source,
-            pass,
-            dialer,
-            addr,
-            ..
-        } = reader;
-        let mut turn = self.main.take_turn(rt, pass);
-        let redialed = redial_under(&mut turn, source, dialer, addr.as_str());
-        turn.put_back();
-        redialed
+/// What is needed: whether more of the server's stream. If the next link is needed, dials it.
+pub(crate) fn input_or_link_under<
+    I: LinkSource + Drop,
+    O: LinkSink + Drop,
+    C: CallRule,
+    D: Dialer<Source = I, Sink = O>,
+>(
+    turn: &mut MainTurn<'_, O, C>,
+    ticket: Option<&Ticket>,
+    source: &mut Option<I>,
+    dialer: &mut D,
+    addr: &str,
+) -> bool
+    requires ready { IsReady O.link O.taken O.faults C.allows turn.old }
+    requires feeding { IsFeeding (pass_of turn.old) }
+    requires link { (y : RequesterWithSink O C) → Has turn.old y → HasLink I.link O.link D.ended source.old y.sink dialer.old }
+    ensures same { IsSameTurn turn.old turn.new }
+    ensures ready { IsReady O.link O.taken O.faults C.allows turn.new }
+    ensures feeding { IsFeeding (pass_of turn.new) }
+    ensures input { result ≡ true → IsUnmoved (pass_of turn.old) (pass_of turn.new) source.old source.new dialer.old dialer.new × MayFeed (seen_by (pass_of turn.new)) }
+    ensures other { result ≡ false → IsUnmoved (pass_of turn.old) (pass_of turn.new) source.old source.new dialer.old dialer.new
+        ⊎ Redials I.link I.left I.given I.faults O.link O.taken O.faults D.asked D.ended D.faults turn.old turn.new source.old source.new dialer.old dialer.new addr.now }
+{
+    match need_under(turn, ticket) {
+        Need::Nothing => false,
+        Need::Input => true,
+        Need::Link => {
+            redial_under(turn, source, dialer, addr);
+            false
+        }
     }
 }

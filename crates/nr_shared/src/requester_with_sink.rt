@@ -12,12 +12,13 @@ ghost use Rattle.nr_requester.specs.OpenCalls.{found_answer};
 use crate::call_end::CallEnd;
 use crate::call_rule::CallRule;
 use crate::entry::{Entry, Stop};
+use nr_endpoint::DrainFault;
 use nr_link::End;
-use nr_links::{LinkSink, READ_MAX};
+use nr_links::{LinkNumber, LinkSink, NumberedSink, READ_MAX};
 use nr_reduce::{Call, Form, Refused};
 use nr_requester::{Buffers, Done, Requester, Take, Ticket};
 use nr_turnstile::{Machine, Pass, Turn};
-use std::marker::PhantomData;
+use std::marker::{Brand, PhantomData};
 
 /// What a drain did.
 #[derive(Clone, Copy)]
@@ -28,6 +29,31 @@ pub enum Drained {
     Wrote,
     /// The sink took the first bytes of it, and a write failed.
     WriteFailed,
+}
+
+/// Hands the output of a requester to the sink of a link. The type of the sink has the number of its link meanwhile, so the sink that comes back is
+/// of that link.
+fn drain_numbered<N: LinkNumber, O: LinkSink>(
+    requester: &mut Requester,
+    sink: O,
+) -> (O, Result<(), DrainFault>)
+    requires { O.link sink ≡ N.number }
+    ensures link { O.link result.0 ≡ O.link sink }
+    ensures taken { (n : ℕ) × (n ≤ length (queue_of requester.old.state))
+        × Appends (O.taken sink) (O.taken result.0) (take n (queue_of requester.old.state))
+        × (requester.new ≡ after_drain n requester.old)
+        × StandsOn requester.old (λ link. marks.Wrote link Initiator (take n (queue_of requester.old.state))) requester.new
+        × StaysOut requester.old (λ link. marks.Wrote link Initiator (take n (queue_of requester.old.state))) requester.new
+        × OnOk result.1 (n ≡ length (queue_of requester.old.state))
+        × KeepsOn requester.old (λ link. marks.Wrote link Initiator (take n (queue_of requester.old.state))) requester.new }
+    ensures tickets { KeepsTickets requester.old.state requester.new.state }
+    ensures fed { fed_bytes requester.new ≡ fed_bytes requester.old }
+    ensures counted { MatchResult result.1 (λ _. O.faults result.0 ≡ O.faults sink) (λ e. (e ≡ drains.LinkWrite) × Rises (O.faults sink) (O.faults result.0)) }
+    ensures never_falls { O.faults sink ≤ O.faults result.0 }
+{
+    let mut numbered = NumberedSink::<O, N>::new(sink);
+    let drained = requester.drain_into(&mut numbered);
+    (numbered.into_inner(), drained)
 }
 
 /// A requester with its sink.
@@ -70,7 +96,7 @@ impl<O: LinkSink, C: CallRule> Machine for RequesterWithSink<O, C> {
     }
 }
 
-impl<O: LinkSink, C: CallRule> RequesterWithSink<O, C> {
+impl<O: LinkSink + Drop, C: CallRule> RequesterWithSink<O, C> {
     ghost use Rattle.nr_shared.specs.declared.entry.Entry.{Entry};
     ghost use Rattle.nr_shared.specs.declared.entry.Entry.TheVariants as entries;
     ghost use Rattle.nr_shared.specs.Standing.{Stands, Becomes};
@@ -84,7 +110,7 @@ impl<O: LinkSink, C: CallRule> RequesterWithSink<O, C> {
     ghost use Rattle.nr_requester.specs.OpenCalls.{KeepsTickets};
     ghost use Rattle.nr_shared.specs.Ending.{LinkEnded};
     ghost use Rattle.nr_shared.specs.Opening.{IsInitialHistory};
-    ghost use Rattle.nr_shared.specs.Output.{IsCallOutstanding};
+    ghost use Rattle.nr_shared.specs.Output.{IsCallOutstanding, MayStop};
 
     /// A requester that is shared, with its sink. Output may be pending.
     pub(crate) fn of_parts(
@@ -92,7 +118,7 @@ impl<O: LinkSink, C: CallRule> RequesterWithSink<O, C> {
         sink: O,
         tries: Option<u32>,
     ) -> RequesterWithSink<O, C>
-        ensures { (history : List Entry) → IsInitialHistory O.taken O.faults requester sink history → Stands O.link O.taken O.faults C.allows result history }
+        ensures { (history : List Entry) → IsInitialHistory O.link O.taken O.faults requester sink tries history → Stands O.link O.taken O.faults C.allows result history }
     {
         requester.facts();
         RequesterWithSink {
@@ -120,7 +146,9 @@ impl<O: LinkSink, C: CallRule> RequesterWithSink<O, C> {
             Some(Stop::Budget) => return Some(CallEnd::Budget { read: READ_MAX }),
             Some(Stop::Memory) => return Some(CallEnd::Ended(End::Memory)),
             Some(Stop::DialFault) => return Some(CallEnd::DialFault),
-            _ => {}
+            Some(Stop::NotReopened) => return Some(CallEnd::Ended(End::Memory)),
+            Some(Stop::Spent { left, need }) => return Some(CallEnd::Spent { left, need }),
+            Some(Stop::LinkRead) | Some(Stop::Closed) | None => {}
         }
         match self.loss() {
             None => None,
@@ -195,10 +223,12 @@ impl<O: LinkSink, C: CallRule> RequesterWithSink<O, C> {
         if !self.pending {
             return Drained::Nothing;
         }
-        let Some(sink) = &mut self.sink else {
+        let Some(sink) = self.sink.take() else {
             return Drained::Nothing;
         };
-        match self.requester.drain_into(sink) {
+        let (sink, drained) = drain_numbered::<Brand, O>(&mut self.requester, sink);
+        self.sink = Some(sink);
+        match drained {
             Ok(()) => {
                 self.pending = false;
                 self.entries += 1;
@@ -236,12 +266,11 @@ impl<O: LinkSink, C: CallRule> RequesterWithSink<O, C> {
         }
     }
 
-    /// No more is fed, though a call is outstanding.
+    /// No more is fed over the link at hand, though a call is outstanding.
     pub(crate) fn stop(&mut self, cause: Stop)
         requires cause { cause ≢ causes.Memory }
-        requires goes { self.old.stopped ≡ None }
-        requires stands { (history : List Entry) × Stands O.link O.taken O.faults C.allows self.old history }
-        ensures stopped { (history : List Entry) (last : ℕ) → Stands O.link O.taken O.faults C.allows self.old history → last_feeding history ≡ Some last → IsCallOutstanding history →
+        requires stands { (history : List Entry) × (Stands O.link O.taken O.faults C.allows self.old history × MayStop cause history) }
+        ensures stopped { (history : List Entry) (last : ℕ) → Stands O.link O.taken O.faults C.allows self.old history → last_feeding history ≡ Some last → MayStop cause history →
             Stands O.link O.taken O.faults C.allows self.new (history ++ entries.Stopped cause last ∷ []) }
     {
         self.stopped = Some(cause);

@@ -18,7 +18,7 @@ ghost use Rattle.nr_shared.specs.Adding.{Adds};
 ghost use Rattle.nr_shared.specs.Callers.{Writes};
 ghost use Rattle.nr_shared.specs.Waiting.{ForgetsCall, IsTakeTurn, RevokesCall};
 ghost use Rattle.nr_shared.specs.Draining.{fed_after, stopped_after};
-ghost use Rattle.nr_shared.specs.Output.{IsCallOutstanding};
+ghost use Rattle.nr_shared.specs.Output.{IsCallOutstanding, MayStop};
 ghost use Rattle.nr_shared.specs.declared.entry.Stop.TheVariants as causes;
 ghost use Rattle.nr_links.specs.Limits.{read_max};
 
@@ -36,7 +36,7 @@ use std::marker::Brand;
 use std::snapshot::Snapshot;
 
 /// Submits a call.
-pub(crate) fn submit_under<O: LinkSink, C: CallRule>(
+pub(crate) fn submit_under<O: LinkSink + Drop, C: CallRule>(
     turn: &mut MainTurn<'_, O, C>,
     call: Call,
     form: Form,
@@ -69,7 +69,7 @@ pub(crate) fn submit_under<O: LinkSink, C: CallRule>(
 }
 
 /// Takes the answer of a call of the pass's own; or the call comes back with its buffers, if the requester has ended before.
-pub(crate) fn try_take_under<O: LinkSink, C: CallRule>(
+pub(crate) fn try_take_under<O: LinkSink + Drop, C: CallRule>(
     turn: &mut MainTurn<'_, O, C>,
     ticket: Ticket,
 ) -> Take
@@ -98,7 +98,7 @@ pub(crate) fn try_take_under<O: LinkSink, C: CallRule>(
 }
 
 /// Forgets a call of the pass's own.
-pub(crate) fn forget_under<O: LinkSink, C: CallRule>(turn: &mut MainTurn<'_, O, C>, ticket: Ticket)
+pub(crate) fn forget_under<O: LinkSink + Drop, C: CallRule>(turn: &mut MainTurn<'_, O, C>, ticket: Ticket)
     requires ready { IsReady O.link O.taken O.faults C.allows turn.old }
     requires has_call { HasOpenCall (pass_of turn.old) ticket }
     ensures same { IsSameTurn turn.old turn.new }
@@ -113,7 +113,7 @@ pub(crate) fn forget_under<O: LinkSink, C: CallRule>(turn: &mut MainTurn<'_, O, 
 }
 
 /// Hands the output to the sink, unless a write failed before.
-pub(crate) fn drain_under<O: LinkSink, C: CallRule>(turn: &mut MainTurn<'_, O, C>)
+pub(crate) fn drain_under<O: LinkSink + Drop, C: CallRule>(turn: &mut MainTurn<'_, O, C>)
     requires ready { IsReady O.link O.taken O.faults C.allows turn.old }
     ensures same { IsSameTurn turn.old turn.new }
     ensures ready { IsReady O.link O.taken O.faults C.allows turn.new }
@@ -135,7 +135,7 @@ pub(crate) fn drain_under<O: LinkSink, C: CallRule>(turn: &mut MainTurn<'_, O, C
 }
 
 /// Revokes the memory of a call of the pass's own.
-pub(crate) fn revoke_under<O: LinkSink, C: CallRule>(
+pub(crate) fn revoke_under<O: LinkSink + Drop, C: CallRule>(
     turn: &mut MainTurn<'_, O, C>,
     ticket: Ticket,
 ) -> (Call, Buffers)
@@ -154,7 +154,7 @@ pub(crate) fn revoke_under<O: LinkSink, C: CallRule>(
 }
 
 /// Feeds a piece that was read, after a drain. Answers whether memory ran out for a frame of it.
-pub(crate) fn feed_under<O: LinkSink, C: CallRule>(
+pub(crate) fn feed_under<O: LinkSink + Drop, C: CallRule>(
     turn: &mut MainTurn<'_, O, C>,
     piece: &[u8],
 ) -> bool
@@ -177,13 +177,12 @@ pub(crate) fn feed_under<O: LinkSink, C: CallRule>(
     out_of_memory
 }
 
-/// No more is fed.
-pub(crate) fn stop_under<O: LinkSink, C: CallRule>(turn: &mut MainTurn<'_, O, C>, cause: Stop)
+/// No more is fed over the link at hand.
+pub(crate) fn stop_under<O: LinkSink + Drop, C: CallRule>(turn: &mut MainTurn<'_, O, C>, cause: Stop)
     requires ready { IsReady O.link O.taken O.faults C.allows turn.old }
     requires feeding { IsFeeding (pass_of turn.old) }
-    requires goes { (y : RequesterWithSink O C) → Has turn.old y → y.stopped ≡ None }
     requires cause { cause ≢ causes.Memory }
-    requires outstanding { IsCallOutstanding (seen_by (pass_of turn.old)) }
+    requires may { MayStop cause (seen_by (pass_of turn.old)) }
     ensures same { IsSameTurn turn.old turn.new }
     ensures ready { IsReady O.link O.taken O.faults C.allows turn.new }
     ensures feeding { IsFeeding (pass_of turn.new) }
