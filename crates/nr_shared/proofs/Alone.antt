@@ -94,13 +94,13 @@ pub record FeedsAlone {O C : Type 0} (p q : Pass (RequesterWithSink O C) Entry) 
   pub stop : stop_of (seen_by q) ≡ stop_of (seen_by p)
   pub outstanding : IsCallOutstanding (seen_by p) → IsCallOutstanding (seen_by q)
 
-pub alone : {O C : Type 0} (taken : O → Option (List ℕ)) (faults : O → ℕ) (allows : Call → Form → Type 0) (t : Turnstile (RequesterWithSink O C) Entry) (p q : Pass (RequesterWithSink O C) Entry) (y : RequesterWithSink O C) → Lies (seen_by p) (mine_of p) → Gets (Stands taken faults allows) closes_of t p q → Stands taken faults allows y (seen_by q)
+pub alone : {O C : Type 0} (link : O → ℕ) (taken : O → Option (List ℕ)) (faults : O → ℕ) (allows : Call → Form → Type 0) (t : Turnstile (RequesterWithSink O C) Entry) (p q : Pass (RequesterWithSink O C) Entry) (y : RequesterWithSink O C) → Lies (seen_by p) (mine_of p) → Gets (Stands link taken faults allows) closes_of t p q → Stands link taken faults allows y (seen_by q)
     → IsFeeding p → FeedsAlone p q
-alone taken faults allows t p q y lies g st fe =
+alone link taken faults allows t p q y lies g st fe =
     let xs = seen_by p in
     let ys = g.3.0 in
     let seen : seen_by q ≡ xs ++ ys = g.3.1 in
-    let stays = stays_open (Stands taken faults allows) closes_of t p q fe.last lies fe.is_open g in
+    let stays = stays_open (Stands link taken faults allows) closes_of t p q fe.last lies fe.is_open g in
     let quiet : AreQuiet ys = no_link_after closes_of is_feeding xs ys fe.last (subst FeedsInOrder seen st.in_order) fe.is_last
     (λ e i link closes. let (n, (is, at)) = at_after xs ys i.0 e i.1 in stays.1 n e (subst (λ (l : List Entry). get_elem? l n ≡ some e) (sym seen) at) closes) in
     record {
@@ -110,7 +110,7 @@ alone taken faults allows t p q y lies g st fe =
         last = fe.last;
         is_last = ap (λ (l : List Entry). last_feeding l) seen ∙ (last_same is_feeding xs ys quiet ∙ fe.is_last);
         is_open = stays;
-        closes_own = closes_own_on closes_of p q [] lies fe.closes_own (got (Stands taken faults allows) closes_of t p q g) (λ e i k closes. absurd (some-ne-none e (sym i.1)));
+        closes_own = closes_own_on closes_of p q [] lies fe.closes_own (got (Stands link taken faults allows) closes_of t p q g) (λ e i k closes. absurd (some-ne-none e (sym i.1)));
       };
       bytes = ap (λ (l : List Entry). bytes_fed l) seen ∙ bytes_quiet xs ys quiet;
       stop = ap (λ (l : List Entry). stop_of l) seen ∙ stop_quiet xs ys quiet;

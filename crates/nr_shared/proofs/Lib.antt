@@ -3,6 +3,8 @@ pub mod Chains
 pub mod Adding
 pub mod Histories
 pub mod LinkRuns
+pub mod LinkSteps
+pub mod GoingBack
 pub mod Calls
 pub mod Ends
 pub mod Output

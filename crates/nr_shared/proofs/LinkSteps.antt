@@ -7,9 +7,9 @@ use Rattle.nr_reduce.specs.declared.call.Submission.TheVariants as submissions
 use Rattle.nr_reduce.specs.declared.mark.LinkParameters.{LinkParameters}
 use Rattle.nr_reduce.specs.declared.mark.Mark.{Mark}
 use Rattle.nr_reduce.specs.declared.mark.Mark.TheVariants as marks
-use Rattle.nr_reduce.specs.Concerns.{is_judged, same_side}
-use Rattle.nr_reduce.specs.Opening.{IsOpened}
-use Rattle.nr_requester.specs.EarlierLinks.{KeepsEarlierOn}
+use Rattle.nr_reduce.specs.Concerns.{is_judged}
+use Rattle.nr_reduce.specs.History.{same_side}
+use Rattle.nr_requester.specs.EarlierLinks.{KeepsEarlierBeside}
 use Rattle.nr_requester.specs.RequesterState.{RequesterSide}
 use Rattle.nr_requester.specs.ReopenedLinks.{KeepsEarlier, KeepsOn, RequesterKeeps, RequesterStops}
 use Rattle.nr_requester.specs.Reopening.{HasNoMark, link_of}
@@ -43,27 +43,23 @@ law_others opened link run (m ∷ ms) none law = subst (KeepsLinkLaw opened link
 
 -- ---- Marks of the link at hand
 
--- what the requester keeps of a link that was left, it keeps by marks of others
-abbrev pub EarlierStays : (h h' : RequesterSide) → List Mark → Type 0
-EarlierStays h h' ms = (is_own : ℕ → Bool) (opened : LinkParameters) (link : ℕ) (run : List Mark) → HasNoMark link ms → KeepsEarlier is_own opened link h run → KeepsEarlier is_own opened link h' (run ++ ms)
-
-left_stay : (l : LinkRun) (h h' : RequesterSide) (ms : List Mark) (left : List OpenedLink) → EarlierStays h h' ms → AllByRecursion (λ (e : OpenedLink). HasNoMark e.link ms) left → AllByRecursion (IsLeft l h) left → AllByRecursion (IsLeft (with_marks l ms) h') left
+left_stay : (l : LinkRun) (h h' : RequesterSide) (ms : List Mark) (left : List OpenedLink) → KeepsEarlierBeside h h' → AllByRecursion (λ (e : OpenedLink). HasNoMark e.link ms) left → AllByRecursion (IsLeft l h) left → AllByRecursion (IsLeft (with_marks l ms) h') left
 left_stay l h h' ms [] stays none all = tt
 left_stay l h h' ms (e ∷ left) stays none all = (
-  record { keeps = stays (is_of l e.link) e.opened e.link l.run none.0 all.0.keeps; law = law_others e.opened e.link l.run ms none.0 all.0.law },
+  record { keeps = stays (is_of l e.link) e.opened e.link l.run ms all.0.keeps none.0; law = law_others e.opened e.link l.run ms none.0 all.0.law },
   left_stay l h h' ms left stays none.1 all.1,
 )
 
 pub goes_on : (l : LinkRun) (h h' : RequesterSide) (ms : List Mark) → (live : IsLiveOn l h) → RequesterKeeps (is_of l l.at.link) live.earlier l.at.opened l.at.link h' (l.run ++ ms) → KeepsLinkLaw l.at.opened l.at.link (l.run ++ ms)
-    → EarlierStays h h' ms → AllByRecursion (λ (e : OpenedLink). HasNoMark e.link ms) l.left → IsLiveOn (with_marks l ms) h'
+    → KeepsEarlierBeside h h' → AllByRecursion (λ (e : OpenedLink). HasNoMark e.link ms) l.left → IsLiveOn (with_marks l ms) h'
 goes_on l h h' ms live keeps law stays none = record { earlier = live.earlier; keeps = keeps; opens = live.opens; law = law; left = left_stay l h h' ms l.left stays none live.left }
 
 pub runs_out : (l : LinkRun) (h h' : RequesterSide) (ms stopped : List Mark) → (live : IsLiveOn l h) → RequesterStops (is_of l l.at.link) live.earlier l.at.opened l.at.link h' stopped (l.run ++ ms) → KeepsLinkLaw l.at.opened l.at.link (l.run ++ ms)
-    → EarlierStays h h' ms → AllByRecursion (λ (e : OpenedLink). HasNoMark e.link ms) l.left → IsOutOn (with_marks l ms) h'
+    → KeepsEarlierBeside h h' → AllByRecursion (λ (e : OpenedLink). HasNoMark e.link ms) l.left → IsOutOn (with_marks l ms) h'
 runs_out l h h' ms stopped live stops law stays none = record { earlier = live.earlier; stopped = stopped; keeps = stops; law = law; left = left_stay l h h' ms l.left stays none live.left }
 
 pub stays_out : (l : LinkRun) (h h' : RequesterSide) (ms stopped : List Mark) → (out : IsOutOn l h) → RequesterStops (is_of l l.at.link) out.earlier l.at.opened l.at.link h' stopped (l.run ++ ms) → KeepsLinkLaw l.at.opened l.at.link (l.run ++ ms)
-    → EarlierStays h h' ms → AllByRecursion (λ (e : OpenedLink). HasNoMark e.link ms) l.left → IsOutOn (with_marks l ms) h'
+    → KeepsEarlierBeside h h' → AllByRecursion (λ (e : OpenedLink). HasNoMark e.link ms) l.left → IsOutOn (with_marks l ms) h'
 stays_out l h h' ms stopped out stops law stays none = record { earlier = out.earlier; stopped = stopped; keeps = stops; law = law; left = left_stay l h h' ms l.left stays none out.left }
 
 -- a mark of the link at hand is none of those that were left
@@ -76,7 +72,7 @@ none_left mark link (e ∷ left) is apart = (((λ same. apart.0 (sym is ∙ same
 -- The call of this xid goes back by such a mark, and the requester is then in this state: what it keeps of each link, by the mark of the call's link.
 pub record Closes (h h' : RequesterSide) (xid : ℕ) (mark : ℕ → Mark) : Type 0 where
   pub of : (link : ℕ) → link_of (mark link) ≡ link
-  pub goes : KeepsEarlierOn h mark h'
+  pub goes : (is_own : ℕ → Bool) (opened : LinkParameters) (link : ℕ) (run : List Mark) → KeepsEarlier is_own opened link h run → is_own xid ≡ true → KeepsEarlier is_own opened link h' (run ++ mark link ∷ [])
   pub stays : (is_own : ℕ → Bool) (opened : LinkParameters) (link : ℕ) (run : List Mark) (m : Mark) → KeepsEarlier is_own opened link h run → is_own xid ≡ false → link_of m ≢ link → KeepsEarlier is_own opened link h' (run ++ m ∷ [])
   pub law_left : (is_own : ℕ → Bool) (opened : LinkParameters) (link : ℕ) (run : List Mark) → KeepsEarlier is_own opened link h run → is_own xid ≡ true → KeepsLinkLaw opened link run → KeepsLinkLaw opened link (run ++ mark link ∷ [])
 
@@ -108,7 +104,7 @@ module _ (l : LinkRun) (h h' : RequesterSide) (xid : ℕ) (mark : ℕ → Mark) 
   close_left e c left = by (is_of l e.link xid) refl where
     by : (b : Bool) → is_of l e.link xid ≡ b → IsLeft (with_marks l (own_mark ∷ [])) h' e
     by true own = record {
-      keeps = subst (λ (m : Mark). KeepsEarlier (is_of l e.link) e.opened e.link h' (l.run ++ m ∷ [])) (sym (at_link e.link own)) (c.goes (is_of l e.link) e.opened e.link l.run left.keeps);
+      keeps = subst (λ (m : Mark). KeepsEarlier (is_of l e.link) e.opened e.link h' (l.run ++ m ∷ [])) (sym (at_link e.link own)) (c.goes (is_of l e.link) e.opened e.link l.run left.keeps own);
       law = subst (λ (m : Mark). KeepsLinkLaw e.opened e.link (l.run ++ m ∷ [])) (sym (at_link e.link own)) (c.law_left (is_of l e.link) e.opened e.link l.run left.keeps own left.law);
     }
     by false other = record {

@@ -94,10 +94,10 @@ or_true false = refl
 pub rises_from : (a b c : ℕ) → a ≤ b → Rises b c → Rises a c
 rises_from a b c le up = ⊎_elim (λ (more : b < c). inl (omega (arith, le, more))) (λ last. inr last) up
 
-module _ {O C : Type 0} (taken : O → Option (List ℕ)) (faults : O → ℕ) (allows : Call → Form → Type 0) where
+module _ {O C : Type 0} (link : O → ℕ) (taken : O → Option (List ℕ)) (faults : O → ℕ) (allows : Call → Form → Type 0) where
   -- nothing changed
-  pub nothing_moves : (m : RequesterWithSink O C) → Becomes taken faults allows m m []
-  nothing_moves m h st = subst (λ (l : List Entry). Stands taken faults allows m l) (sym (append-nil h)) st
+  pub nothing_moves : (m : RequesterWithSink O C) → Becomes link taken faults allows m m []
+  nothing_moves m h st = subst (λ (l : List Entry). Stands link taken faults allows m l) (sym (append-nil h)) st
 
   -- what a drain gave: `n` bytes were taken
   pub record Drains (m m' : RequesterWithSink O C) (n : ℕ) : Type 0 where
@@ -123,7 +123,7 @@ module _ {O C : Type 0} (taken : O → Option (List ℕ)) (faults : O → ℕ) (
 
   -- the sink took all that waited
   wrote : (m m' : RequesterWithSink O C) (n : ℕ) (h : List Entry) → m.pending ≡ true → m.write_failed ≡ false → Drains m m' n → n ≡ length (queue_of m.requester.state) → faults m'.sink ≡ faults m.sink → m'.entries ≡ m.entries + 1 → m'.pending ≡ false → m'.write_failed ≡ false
-      → Stands taken faults allows m h → Stands taken faults allows m' (h ++ entries.Wrote (take n (queue_of m.requester.state)) ∷ [])
+      → Stands link taken faults allows m h → Stands link taken faults allows m' (h ++ entries.Wrote (take n (queue_of m.requester.state)) ∷ [])
   wrote m m' n h was whole d all same count pending sink_failed st =
       let bytes = take n (queue_of m.requester.state) in
       let e : Entry = entries.Wrote bytes in
@@ -160,7 +160,7 @@ module _ {O C : Type 0} (taken : O → Option (List ℕ)) (faults : O → ℕ) (
 
   -- the sink took the first bytes, and a write failed
   wrote_then_failed : (m m' : RequesterWithSink O C) (n : ℕ) (h : List Entry) → m.pending ≡ true → m.write_failed ≡ false → Drains m m' n → Rises (faults m.sink) (faults m'.sink) → m'.entries ≡ m.entries + 2 → m'.pending ≡ true → m'.write_failed ≡ true
-      → Stands taken faults allows m h → Stands taken faults allows m' ((h ++ entries.Wrote (take n (queue_of m.requester.state)) ∷ []) ++ entries.WriteFailed ∷ [])
+      → Stands link taken faults allows m h → Stands link taken faults allows m' ((h ++ entries.Wrote (take n (queue_of m.requester.state)) ∷ []) ++ entries.WriteFailed ∷ [])
   wrote_then_failed m m' n h was whole d up count pending sink_failed st =
       let bytes = take n (queue_of m.requester.state) in
       let e : Entry = entries.Wrote bytes in
@@ -197,12 +197,12 @@ module _ {O C : Type 0} (taken : O → Option (List ℕ)) (faults : O → ℕ) (
       }
 
   pub drains_all : (m m' : RequesterWithSink O C) (n : ℕ) → m.pending ≡ true → m.write_failed ≡ false → Drains m m' n → n ≡ length (queue_of m.requester.state) → faults m'.sink ≡ faults m.sink → m'.entries ≡ m.entries + 1 → m'.pending ≡ false → m'.write_failed ≡ false
-      → Becomes taken faults allows m m' (entries.Wrote (taken_between m.requester.state m'.requester.state) ∷ [])
-  drains_all m m' n was whole d all same count pending sink_failed h st = subst (λ (b : List ℕ). Stands taken faults allows m' (h ++ entries.Wrote b ∷ [])) (took_them m.requester m'.requester n d.after d.some) (wrote m m' n h was whole d all same count pending sink_failed st)
+      → Becomes link taken faults allows m m' (entries.Wrote (taken_between m.requester.state m'.requester.state) ∷ [])
+  drains_all m m' n was whole d all same count pending sink_failed h st = subst (λ (b : List ℕ). Stands link taken faults allows m' (h ++ entries.Wrote b ∷ [])) (took_them m.requester m'.requester n d.after d.some) (wrote m m' n h was whole d all same count pending sink_failed st)
 
   pub drains_some : (m m' : RequesterWithSink O C) (n : ℕ) → m.pending ≡ true → m.write_failed ≡ false → Drains m m' n → Rises (faults m.sink) (faults m'.sink) → m'.entries ≡ m.entries + 2 → m'.pending ≡ true → m'.write_failed ≡ true
-      → Becomes taken faults allows m m' (entries.Wrote (taken_between m.requester.state m'.requester.state) ∷ entries.WriteFailed ∷ [])
+      → Becomes link taken faults allows m m' (entries.Wrote (taken_between m.requester.state m'.requester.state) ∷ entries.WriteFailed ∷ [])
   drains_some m m' n was whole d up count pending sink_failed h st =
       let bytes = take n (queue_of m.requester.state) in
-      subst (λ (b : List ℕ). Stands taken faults allows m' (h ++ entries.Wrote b ∷ entries.WriteFailed ∷ [])) (took_them m.requester m'.requester n d.after d.some)
-      (subst (λ (l : List Entry). Stands taken faults allows m' l) (append_assoc h (entries.Wrote bytes ∷ []) (entries.WriteFailed ∷ [])) (wrote_then_failed m m' n h was whole d up count pending sink_failed st))
+      subst (λ (b : List ℕ). Stands link taken faults allows m' (h ++ entries.Wrote b ∷ entries.WriteFailed ∷ [])) (took_them m.requester m'.requester n d.after d.some)
+      (subst (λ (l : List Entry). Stands link taken faults allows m' l) (append_assoc h (entries.Wrote bytes ∷ []) (entries.WriteFailed ∷ [])) (wrote_then_failed m m' n h was whole d up count pending sink_failed st))

@@ -1,5 +1,5 @@
 -- A requester with a number, which is shared over a link that is dialled.
-use Rattle.std.specs.Prelude.{◌≡◌, ⊥, ⊤, ℕ, ◌⊎◌, List, [], ◌∷◌, Option, None, Some}
+use Rattle.std.specs.Prelude.{◌≡◌, ⊤, ℕ, ◌⊎◌, List, [], ◌∷◌, Option, None, Some}
 use Rattle.nr_outside.specs.Faults.{Rises}
 use Rattle.nr_links.specs.Asked.{Asks}
 use Rattle.nr_links.specs.Links.{EndsLink, HasOpenLink, IsNewLink, LinkLog, MakesLink, ended_link}

@@ -1,5 +1,5 @@
 -- What the pass that feeds does with the source and the dialer of a link.
-use Rattle.std.specs.Prelude.{◌≡◌, ⊤, ⊥, ◌⊎◌, ℕ, false, List, [], Option, None}
+use Rattle.std.specs.Prelude.{◌≡◌, ⊤, ◌⊎◌, ℕ, false, List, [], Option, None}
 use Rattle.nr_links.specs.Links.{LinkLog}
 use Rattle.nr_reduce.specs.declared.call.Refused.{Refused}
 use Rattle.nr_reduce.specs.declared.call.Refused.TheVariants as refusals
