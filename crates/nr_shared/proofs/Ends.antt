@@ -56,7 +56,7 @@ pub fits_initial : (h : List Entry) (c : InitialState) (opened : LinkParameters)
 fits_initial h c opened numbers before is (d, has, fits) = subst (λ (x : InitialState). FitsInitialState x (rejoins h) opened numbers before) (ap (λ (o : Option InitialState). unwrap_or o c) (sym has ∙ is)) fits
 
 client_ended : (c : InitialState) (r : RequesterSide) (h : List Entry) (end : End) → initial_of h ≡ Some c → RepresentsHistoryIf false c r h → r.state.side.ended ≡ Some end → ClientEnded end h
-client_ended c r h end is represents ended opened numbers before fits = let live = represents.1 opened numbers before (fits_initial h c opened numbers before is fits) in sym live.keeps.keeps.kept.keeps.ended ∙ ended
+client_ended c r h end is represents ended opened numbers before fits = let live = represents.1 0 opened numbers before (fits_initial h c opened numbers before is fits) in sym live.keeps.keeps.kept.keeps.ended ∙ ended
 
 -- the end of a requester that ran out of memory
 end_is : (end : End) (o : Option End) → o ≡ Some end → o ≡ Some ends.Memory → end ≡ ends.Memory
@@ -214,7 +214,7 @@ module _ {O C : Type 0} (link : O → ℕ) (taken : O → Option (List ℕ)) (fa
       not_out m.stopped st.initial m.requester h (ClientRefuses why call form h) (λ memory. none_memory (sym live ∙ memory)) st.represents
       (λ f. (
         has_memory link taken faults allows m h st (λ memory. none_memory (sym live ∙ memory)),
-        λ opened numbers before fits. (let l = links_of opened numbers before 0 h in let on = f.1 opened numbers before (fits_initial h st.initial opened numbers before st.is_initial fits) in
+        λ opened numbers before fits. (let l = links_of opened numbers before 0 h in let on = f.1 0 opened numbers before (fits_initial h st.initial opened numbers before st.is_initial fits) in
             sym (answers_as_kept (is_of l l.at.link) on.earlier l.at.opened l.at.link m.requester l.run call form on.keeps) ∙ is),
       ))
 
@@ -238,7 +238,7 @@ module _ {O C : Type 0} (link : O → ℕ) (taken : O → Option (List ℕ)) (fa
     by_out true out = absurd (other (sym st.stopped ∙ out_is m.stopped out))
     by_out false out =
         let f = subst (λ b. RepresentsHistoryIf b st.initial m.requester h) out st.represents in
-        let on = f.1 opened numbers before (fits_initial h st.initial opened numbers before st.is_initial fits) in
+        let on = f.1 0 opened numbers before (fits_initial h st.initial opened numbers before st.is_initial fits) in
         may_kept l.at.opened l.at.link m.requester l.run on.keeps.keeps on.keeps.resent
 
   pub says_credit_out_of_memory : (m : RequesterWithSink O C) (h : List Entry) → Stands link taken faults allows m h → SaysCreditOutOfMemory (may_submit m.requester.state) h
@@ -256,7 +256,7 @@ module _ {O C : Type 0} (link : O → ℕ) (taken : O → Option (List ℕ)) (fa
   pub outstanding_is : (m : RequesterWithSink O C) (h : List Entry) → is_out_of_memory m.stopped ≡ false → 0 < length m.requester.state.outstanding → Stands link taken faults allows m h → IsCallOutstanding h
   outstanding_is m h out some st opened numbers before fits =
       let f : RepresentsHistoryIf false st.initial m.requester h = subst (λ (b : Bool). RepresentsHistoryIf b st.initial m.requester h) out st.represents in
-      let on = f.1 opened numbers before (fits_initial h st.initial opened numbers before st.is_initial fits) in
+      let on = f.1 0 opened numbers before (fits_initial h st.initial opened numbers before st.is_initial fits) in
       subst (λ (n : ℕ). 0 < n) (live_counts (links_of opened numbers before 0 h) m.requester on) some
 
   -- the history keeps the law
@@ -267,7 +267,7 @@ module _ {O C : Type 0} (link : O → ℕ) (taken : O → Option (List ℕ)) (fa
       initial = st.initial;
       is_initial = st.is_initial;
       n = 0;
-      law = λ opened numbers before fits. (let on = f.1 opened numbers before (fits_initial h st.initial opened numbers before st.is_initial fits) in (on.law, left_laws (links_of opened numbers before 0 h) m.requester (links_of opened numbers before 0 h).left on.left));
+      law = λ opened numbers before fits. (let on = f.1 0 opened numbers before (fits_initial h st.initial opened numbers before st.is_initial fits) in (on.law, left_laws (links_of opened numbers before 0 h) m.requester (links_of opened numbers before 0 h).left on.left));
       within_tries = st.within_tries;
       output = st.output;
       in_full = st.in_full;

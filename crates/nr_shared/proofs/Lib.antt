@@ -11,6 +11,7 @@ pub mod Output
 pub mod Outstanding
 pub mod Steps
 pub mod Asking
+pub mod Sinks
 pub mod Moving
 pub mod Polling
 pub mod Resting

@@ -55,7 +55,7 @@ pub links_more : (opened : LinkParameters) (numbers : ℕ → ℕ) (before : Lis
     links_of opened numbers before n (h ++ e ∷ []) ≡ with_marks (links_of opened numbers before n h) (marks_at n (links_of opened numbers before n h) e)
 links_more opened numbers before n h e none = let l = links_of opened numbers before n h in links_end opened numbers before n h e ∙ link_same n (numbers (suc (length l.left))) l e none
 
-with_none : (l : LinkRun) → with_marks l [] ≡ l
+pub with_none : (l : LinkRun) → with_marks l [] ≡ l
 with_none l = λ i. record l { run = append-nil l.run i }
 
 -- an entry that is no mark
@@ -109,7 +109,7 @@ none_more : (link : ℕ) (run ms : List Mark) → HasNoMark link run → HasNoMa
 none_more link [] ms none more = more
 none_more link (m ∷ run) ms none more = (none.0, none_more link run ms none.1 more)
 
-none_resent : (link at : ℕ) (ws : List WaitingCall) → at ≢ link → HasNoMark link (map (resend_mark at) ws)
+pub none_resent : (link at : ℕ) (ws : List WaitingCall) → at ≢ link → HasNoMark link (map (resend_mark at) ws)
 none_resent link at [] apart = tt
 none_resent link at (w ∷ ws) apart = (apart, none_resent link at ws apart)
 

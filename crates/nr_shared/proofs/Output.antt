@@ -181,7 +181,7 @@ queue_written c r o h is stopped represents none whole going there opened number
   by_out true out = absurd (going (sym stopped ∙ out_is o out))
   by_out false out =
       let f = subst (λ b. RepresentsHistoryIf b c r h) out represents in
-      written_now l r none (f.1 opened numbers before (fits_initial h c opened numbers before is fits))
+      written_now l r none (f.1 0 opened numbers before (fits_initial h c opened numbers before is fits))
 
 module _ {O C : Type 0} (link : O → ℕ) (taken : O → Option (List ℕ)) (faults : O → ℕ) (allows : Call → Form → Type 0) where
   pub output_written : (m : RequesterWithSink O C) (h : List Entry) → IsFlushed m → Stands link taken faults allows m h → HasWrittenOutput h
@@ -237,11 +237,13 @@ all_placed l r xid a [] there all = tt
 all_placed l r xid a (e ∷ left) there all = ((λ own. left_placed l r xid a e all.0 own there), all_placed l r xid a left there all.1)
 
 live_placed : (l : LinkRun) (r : RequesterSide) (xid : ℕ) (a : AnsweredCall) → IsLiveOn l r → found_answer xid r.state ≡ Some a → Placed l xid a (call_link l xid)
+unfolding client
 live_placed l r xid a live there = of_call l xid (Placed l xid a)
     (λ own. answer_placed (is_of l l.at.link) l.at.opened l.at.link r.state.answered l.run xid _ a own live.keeps.answers.holds live.keeps.keeps.kept.keeps.accesses there)
     (all_placed l r xid a l.left there live.left)
 
 out_placed : (l : LinkRun) (r : RequesterSide) (xid : ℕ) (a : AnsweredCall) → IsOutOn l r → found_answer xid r.state ≡ Some a → Placed l xid a (call_link l xid)
+unfolding client
 out_placed l r xid a out there = of_call l xid (Placed l xid a)
     (λ own. answer_placed (is_of l l.at.link) l.at.opened l.at.link r.state.answered l.run xid _ a own out.keeps.answers.holds
     (subst (λ (e : EndState ClientState). AreReceived (length (bytes_received l.at.link Initiator out.stopped)) e.state.accesses_received) (sym out.keeps.same) out.keeps.out.keeps.accesses) there)
@@ -252,5 +254,5 @@ module _ {O C : Type 0} (link : O → ℕ) (taken : O → Option (List ℕ)) (fa
   pub have_placed : (m : RequesterWithSink O C) (h : List Entry) (xid : ℕ) (a : AnsweredCall) → found_answer xid m.requester.state ≡ Some a → Stands link taken faults allows m h → HavePlaced xid a.buffers h
   have_placed m h xid a there st = by_out (is_out_of_memory m.stopped) st.represents where
     by_out : (b : Bool) → RepresentsHistoryIf b st.initial m.requester h → HavePlaced xid a.buffers h
-    by_out false f = record { n = 0; placed = λ opened numbers before fits. live_placed (links_of opened numbers before 0 h) m.requester xid a (f.1 opened numbers before (fits_initial h st.initial opened numbers before st.is_initial fits)) there }
+    by_out false f = record { n = 0; placed = λ opened numbers before fits. live_placed (links_of opened numbers before 0 h) m.requester xid a (f.1 0 opened numbers before (fits_initial h st.initial opened numbers before st.is_initial fits)) there }
     by_out true f = record { n = f.1.0; placed = λ opened numbers before fits. out_placed (links_of opened numbers before f.1.0 h) m.requester xid a (f.1.1 opened numbers before (fits_initial h st.initial opened numbers before st.is_initial fits)) there }
