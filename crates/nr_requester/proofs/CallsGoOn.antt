@@ -355,5 +355,7 @@ earlier_stays is_own earlier opened link h run staging opens asked stands live =
       to_come = λ xid above. and_false (is_own xid) (is_some (found_answer xid h.state)) (none_above is_own earlier opened link h run stands xid above);
       outcomes = ap (λ (list : List AnsweredCall). map completed_of list) (sym same) ∙ stands.answers.outcomes;
       hands_back = subst (λ (list : List AnsweredCall). AllByRecursion (HandsBack opened (events link Initiator run)) list) same stands.answers.hands_back;
+      holds = subst (λ (list : List AnsweredCall). AllByRecursion (StillHolds (client opened link run).state.next_xid (client opened link run).state) list) same stands.answers.holds;
+      accesses = stands.keeps.kept.keeps.accesses;
       calls = subst (λ (list : List AnsweredCall). AllByRecursion (λ (a : AnsweredCall). IsAsked (client_calls opened link run) a.xid a.call) list) same stands.answers.calls;
     }

@@ -90,3 +90,9 @@ pub mod CallsKeep
 pub mod OutcomesAccepted
 pub mod KeptLaw
 pub mod EarlierLinks
+pub mod StopsOn
+pub mod StoppedLaw
+pub mod EarlierBeside
+pub mod KeptState
+pub mod NoMarks
+pub mod SameTerms

@@ -1,5 +1,5 @@
 -- What a requester keeps of links that follow on one another: of the present one, and of those that it left.
-use Rattle.std.specs.Prelude.{◌≡◌, ℕ, ◌+◌, ◌≤◌, min, Bool, true, false, not, ◌&&◌, List, [], ◌∷◌, ◌++◌, map, is_some}
+use Rattle.std.specs.Prelude.{◌≡◌, ℕ, ◌+◌, ◌≤◌, min, Bool, true, false, not, ◌&&◌, List, [], ◌∷◌, ◌++◌, length, map, is_some}
 use Rattle.std.specs.List.{AllByRecursion, filter}
 use Rattle.nr_wire.specs.declared.hello.Side.TheVariants.{Initiator}
 use Rattle.nr_reduce.specs.declared.mark.Mark.{Mark}
@@ -9,6 +9,7 @@ use Rattle.nr_reduce.specs.Asked.{as_accepted, client_calls}
 use Rattle.nr_reduce.specs.EndRules.{live}
 use Rattle.nr_reduce.specs.Events.{events}
 use Rattle.nr_reduce.specs.History.{bytes_received}
+use Rattle.nr_reduce.specs.OfferedMemory.{AreReceived}
 use Rattle.nr_reduce.specs.Opening.{IsFirstLink}
 use Rattle.nr_reduce.specs.SubmitAnswer.{calls_to_resend}
 use Rattle.nr_reduce.specs.Run.{client}
@@ -16,7 +17,7 @@ use Rattle.nr_reduce.specs.Standing.{ClientRunsOut}
 use Rattle.nr_requester.specs.declared.answer.AnsweredCall.{AnsweredCall}
 use Rattle.nr_requester.specs.RequesterState.{RequesterState, RequesterSide, kept_client, queue_of}
 use Rattle.nr_requester.specs.CountedMarks.{marks_max, marks_of}
-use Rattle.nr_requester.specs.KeptAnswers.{HandsBack, IsAsked, completed_of, is_due}
+use Rattle.nr_requester.specs.KeptAnswers.{HandsBack, IsAsked, StillHolds, completed_of, is_due}
 use Rattle.nr_requester.specs.OpenCalls.{found_answer}
 use Rattle.nr_requester.specs.Standing.{AnswersWith, KeepsClient, RequesterRepresents, RequesterRunsOut}
 
@@ -79,13 +80,15 @@ StopsAfter before fed after = (is_own : ℕ → Bool) (earlier : ℕ) (opened : 
 
 -- ---- A link that it left
 
--- It keeps the answers of a link that it left after some of these marks: the outcomes that are due, each with its call and its buffers. No call that
--- is outstanding or still comes belongs to that link.
+-- It keeps the answers of a link that it left after some of these marks: the outcomes that are due, each with its call and its buffers, which have what
+-- the regions of the call held when its answer came, and hold still. No call that is outstanding or still comes belongs to that link.
 pub record KeepsEarlier (is_own : ℕ → Bool) (opened : LinkParameters) (link : ℕ) (h : RequesterSide) (run : List Mark) : Type 0 where
   pub outstanding : AllByRecursion (λ c. is_own c.xid ≡ false) h.state.outstanding
   pub to_come : (xid : ℕ) → h.state.next_xid ≤ xid → is_own xid ≡ false
   pub outcomes : map completed_of (own_answers is_own h.state) ≡ filter (λ c. is_due link run c.xid) (client opened link run).state.outcomes
   pub hands_back : AllByRecursion (HandsBack opened (events link Initiator run)) (own_answers is_own h.state)
+  pub holds : AllByRecursion (StillHolds (client opened link run).state.next_xid (client opened link run).state) (own_answers is_own h.state)
+  pub accesses : AreReceived (length (bytes_received link Initiator run)) (client opened link run).state.accesses_received
   pub calls : AllByRecursion (λ a. IsAsked (client_calls opened link run) a.xid a.call) (own_answers is_own h.state)
 
 -- A call that was answered when a link was left belongs to the link on which its answer came; all others to those that follow.

@@ -3,12 +3,15 @@ pub mod Chains
 pub mod Adding
 pub mod Histories
 pub mod LinkRuns
+pub mod LinkSteps
+pub mod GoingBack
 pub mod Calls
 pub mod Ends
 pub mod Output
 pub mod Outstanding
 pub mod Steps
 pub mod Asking
+pub mod Sinks
 pub mod Moving
 pub mod Polling
 pub mod Resting

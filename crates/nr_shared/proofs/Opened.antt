@@ -73,9 +73,9 @@ live_first : (opened : LinkParameters) (link : ℕ) (before : List Mark) (c : In
 unfolding run_of
 live_first opened link before c r is fits = subst (IsLive opened link r) (sym (append-nil before)) (subst (λ (x : RequesterSide). IsLive opened link x before) is fits.live)
 
-module _ {O C : Type 0} (taken : O → Option (List ℕ)) (faults : O → ℕ) (allows : Call → Form → Type 0) where
+module _ {O C : Type 0} (link : O → ℕ) (taken : O → Option (List ℕ)) (faults : O → ℕ) (allows : Call → Form → Type 0) where
   pub opens : (m : RequesterWithSink O C) (history : List Entry) → IsInitialHistory taken faults m.requester m.sink history → m.entries ≡ 1 → m.pending ≡ true → m.write_failed ≡ false → m.stopped ≡ None
-      → ((x : ℕ) → m.requester.state.next_xid ≤ x → IsFresh m.requester.state x) → m.requester.state.next_xid ≤ 2 ^ 32 → Stands taken faults allows m history
+      → ((x : ℕ) → m.requester.state.next_xid ≤ x → IsFresh m.requester.state x) → m.requester.state.next_xid ≤ 2 ^ 32 → Stands link taken faults allows m history
   opens m history o count pending whole going fresh small =
       let c = o.initial in
       let e : Entry = entries.Initial c in
@@ -83,7 +83,7 @@ module _ {O C : Type 0} (taken : O → Option (List ℕ)) (faults : O → ℕ) (
       let is_due : one_if m.pending ≡ 1 = ap one_if pending in
       let fed = o.fed in
       let same : fed_bytes c.requester ≡ fed_bytes m.requester = ap fed_bytes o.requester_is in
-      subst (Stands taken faults allows m) (sym o.history_is) (record {
+      subst (Stands link taken faults allows m) (sym o.history_is) (record {
         initial = c;
         is_initial = refl;
         entries = count;

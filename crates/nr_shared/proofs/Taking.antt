@@ -108,21 +108,21 @@ follows_out c r s o h xid k bytes memory are there after stops represents = by_o
     (f.1.0, λ opened link before fits. subst (IsOut opened link s) (sym (run_is before f.1.0 link)) (out_revoke r s xid bytes are there stops opened link (run_of before f.1.0 link h) (f.1.1 opened link before fits))),
   )
 
-module _ {O C : Type 0} (taken : O → Option (List ℕ)) (faults : O → ℕ) (allows : Call → Form → Type 0) where
+module _ {O C : Type 0} (link : O → ℕ) (taken : O → Option (List ℕ)) (faults : O → ℕ) (allows : Call → Form → Type 0) where
   -- neither an answer nor an end has come
-  pub still_awaited : (m : RequesterWithSink O C) (h : List Entry) (xid k : ℕ) (call : Call) → found_answer xid m.requester.state ≡ None → m.requester.state.side.ended ≡ None → IsCallAt h xid k call → IsUnclosed h k → Stands taken faults allows m h → IsAwaitedStill xid h
+  pub still_awaited : (m : RequesterWithSink O C) (h : List Entry) (xid k : ℕ) (call : Call) → found_answer xid m.requester.state ≡ None → m.requester.state.side.ended ≡ None → IsCallAt h xid k call → IsUnclosed h k → Stands link taken faults allows m h → IsAwaitedStill xid h
   still_awaited m h xid k call none going asked unclosed st =
       let there : is_some (open_call xid m.requester.state) ≡ true = ap is_some (st.calls xid k call asked unclosed).1 in
       not_out m.stopped st.initial m.requester h (IsAwaitedStill xid h) (λ bad. none_memory (sym going ∙ bad)) st.represents
       (λ f. (
-        has_memory taken faults allows m h st (λ bad. none_memory (sym going ∙ bad)),
+        has_memory link taken faults allows m h st (λ bad. none_memory (sym going ∙ bad)),
         λ opened link before fits.
             (let l = f.1 opened link before (fits_initial h st.initial opened link before st.is_initial fits) in
             (sym l.stands.keeps.kept.keeps.ended ∙ going, none_came opened link m.requester (run_of before 0 link h) xid l.stands.answers (open_is_awaited opened link m.requester (run_of before 0 link h) xid l.stands there) none)),
       ))
 
   -- a call whose answer isn't there
-  pub none_has_come : (m : RequesterWithSink O C) (h : List Entry) (xid k : ℕ) (call : Call) → is_some (found_answer xid m.requester.state) ≡ false → IsCallAt h xid k call → IsUnclosed h k → Stands taken faults allows m h → IsUnanswered xid h
+  pub none_has_come : (m : RequesterWithSink O C) (h : List Entry) (xid k : ℕ) (call : Call) → is_some (found_answer xid m.requester.state) ≡ false → IsCallAt h xid k call → IsUnclosed h k → Stands link taken faults allows m h → IsUnanswered xid h
   none_has_come m h xid k call lacks asked unclosed st = by_out (is_out_of_memory m.stopped) st.represents where
     there : is_some (open_call xid m.requester.state) ≡ true
     there = ap is_some (st.calls xid k call asked unclosed).1
@@ -145,7 +145,7 @@ module _ {O C : Type 0} (taken : O → Option (List ℕ)) (faults : O → ℕ) (
     }
 
   -- what goes back of a call that is lost
-  pub lost_with : (m : RequesterWithSink O C) (h : List Entry) (xid k : ℕ) (call : Call) (buffers : Buffers) → found_answer xid m.requester.state ≡ None → buffers ≡ buffers_of xid m.requester.state → IsCallAt h xid k call → IsUnclosed h k → Stands taken faults allows m h → IsLostWith xid buffers h
+  pub lost_with : (m : RequesterWithSink O C) (h : List Entry) (xid k : ℕ) (call : Call) (buffers : Buffers) → found_answer xid m.requester.state ≡ None → buffers ≡ buffers_of xid m.requester.state → IsCallAt h xid k call → IsUnclosed h k → Stands link taken faults allows m h → IsLostWith xid buffers h
   lost_with m h xid k call buffers none are asked unclosed st = by_out (is_out_of_memory m.stopped) st.represents where
     there : is_some (open_call xid m.requester.state) ≡ true
     there = ap is_some (st.calls xid k call asked unclosed).1
@@ -172,21 +172,21 @@ module _ {O C : Type 0} (taken : O → Option (List ℕ)) (faults : O → ℕ) (
 
   -- one entry that closes the place of a call that comes back
   lost_any : (m m' : RequesterWithSink O C) (xid k : ℕ) (call : Call) (e : Entry) (h : List Entry) → IsOfCall e → Allows allows e → ClosesCall h e → closes_of e ≡ Some k → ((x : ℕ) → submitted_call x e ≡ None) → m'.sink ≡ m.sink → m'.entries ≡ m.entries + 1 → m'.pending ≡ m.pending → m'.write_failed ≡ m.write_failed → m'.stopped ≡ m.stopped
-      → m'.requester ≡ after_revoke m.requester xid → ClosesTicket xid m.requester.state m'.requester.state → fed_bytes m'.requester ≡ fed_bytes m.requester → IsCallAt h xid k call → IsUnclosed h k → (st : Stands taken faults allows m h)
-      → RepresentsHistory st.initial m'.requester m.stopped (h ++ e ∷ []) → Stands taken faults allows m' (h ++ e ∷ [])
+      → m'.requester ≡ after_revoke m.requester xid → ClosesTicket xid m.requester.state m'.requester.state → fed_bytes m'.requester ≡ fed_bytes m.requester → IsCallAt h xid k call → IsUnclosed h k → (st : Stands link taken faults allows m h)
+      → RepresentsHistory st.initial m'.requester m.stopped (h ++ e ∷ []) → Stands link taken faults allows m' (h ++ e ∷ [])
   lost_any m m' xid k call e h quiet own ends_call closes no_call sink count pending sink_failed stopped after shuts fed asked unclosed st represents =
       let c = st.initial in
       let there : is_some (open_call xid m.requester.state) ≡ true = ap is_some (st.calls xid k call asked unclosed).1 in
       let kept = revoked_kept m.requester m'.requester xid after fed in
-      call_entry taken faults allows m m' h e quiet own ends_call st sink count sink_failed stopped represents
+      call_entry link taken faults allows m m' h e quiet own ends_call st sink count sink_failed stopped represents
       (calls_fewer m.requester.state m'.requester.state h e xid k call no_call closes asked unclosed shuts st.calls)
       (λ is. kept.queue ∙ st.pending (sym pending ∙ is))
       (subst (λ b. IsWithin (fed_bytes c.requester) m'.requester b m.write_failed m.stopped (h ++ e ∷ [])) (sym pending)
       (within_close m.requester m'.requester m.pending m.write_failed m.stopped h e xid (fed_same h e quiet.fed) there shuts kept st.within))
 
   -- nothing changed
-  pub stands_same : (m m' : RequesterWithSink O C) (h : List Entry) → m'.sink ≡ m.sink → m'.entries ≡ m.entries → m'.pending ≡ m.pending → m'.write_failed ≡ m.write_failed → m'.stopped ≡ m.stopped → m'.requester ≡ m.requester → m'.rule ≡ m.rule → Stands taken faults allows m h → Stands taken faults allows m' h
-  stands_same m m' h sink count pending sink_failed stopped requester rule st = subst (λ (x : RequesterWithSink O C). Stands taken faults allows x h)
+  pub stands_same : (m m' : RequesterWithSink O C) (h : List Entry) → m'.sink ≡ m.sink → m'.entries ≡ m.entries → m'.pending ≡ m.pending → m'.write_failed ≡ m.write_failed → m'.stopped ≡ m.stopped → m'.requester ≡ m.requester → m'.rule ≡ m.rule → Stands link taken faults allows m h → Stands link taken faults allows m' h
+  stands_same m m' h sink count pending sink_failed stopped requester rule st = subst (λ (x : RequesterWithSink O C). Stands link taken faults allows x h)
       (λ i. record { requester = sym requester i; sink = sym sink i; entries = sym count i; pending = sym pending i; write_failed = sym sink_failed i; stopped = sym stopped i; rule = sym rule i }) st
 
   -- what a take gave that found the call lost
@@ -205,20 +205,20 @@ module _ {O C : Type 0} (taken : O → Option (List ℕ)) (faults : O → ℕ) (
     pub fed : fed_bytes m'.requester ≡ fed_bytes m.requester
 
   lost_live : (m m' : RequesterWithSink O C) (xid k : ℕ) (call : Call) (buffers : Buffers) (end : End) (h : List Entry) → Loses m m' xid buffers → (m.requester.state.side.ended ≡ Some ends.Memory → ⊥) → m.requester.state.side.ended ≡ Some end → IsCallAt h xid k call → IsUnclosed h k
-      → Stands taken faults allows m h → Stands taken faults allows m' (h ++ entries.Lost xid k ∷ [])
+      → Stands link taken faults allows m h → Stands link taken faults allows m' (h ++ entries.Lost xid k ∷ [])
   lost_live m m' xid k call buffers end h l other ended asked unclosed st =
       lost_any m m' xid k call (entries.Lost xid k) h (record { written = refl; fed = refl; sink_failed = refl; stop = refl; feeding = refl; wrote = refl }) tt (call, asked, unclosed) refl (λ x. refl) l.sink l.count l.pending l.sink_failed l.stopped l.after l.shuts l.fed asked unclosed st
       (follows_lost st.initial m.requester m'.requester m.stopped h xid k end other ended (ap is_some (st.calls xid k call asked unclosed).1) l.none l.after l.on st.represents)
 
   lost_out : (m m' : RequesterWithSink O C) (xid k : ℕ) (call : Call) (buffers : Buffers) (h : List Entry) → Loses m m' xid buffers → m.requester.state.side.ended ≡ Some ends.Memory → IsCallAt h xid k call → IsUnclosed h k
-      → Stands taken faults allows m h → Stands taken faults allows m' (h ++ entries.Revoke xid (bytes_of_buffers buffers) k ∷ [])
+      → Stands link taken faults allows m h → Stands link taken faults allows m' (h ++ entries.Revoke xid (bytes_of_buffers buffers) k ∷ [])
   lost_out m m' xid k call buffers h l memory asked unclosed st =
       lost_any m m' xid k call (entries.Revoke xid (bytes_of_buffers buffers) k) h (record { written = refl; fed = refl; sink_failed = refl; stop = refl; feeding = refl; wrote = refl }) tt (call, asked, unclosed) refl (λ x. refl) l.sink l.count l.pending l.sink_failed l.stopped l.after l.shuts l.fed asked unclosed st
       (follows_out st.initial m.requester m'.requester m.stopped h xid k (bytes_of_buffers buffers) memory (ap bytes_of_buffers l.are) (ap is_some (st.calls xid k call asked unclosed).1) l.after l.stops st.represents)
 
   -- a call is lost
   pub loses : (m m' : RequesterWithSink O C) (xid k : ℕ) (call : Call) (buffers : Buffers) (end : End) (h : List Entry) → Loses m m' xid buffers → m.requester.state.side.ended ≡ Some end → IsCallAt h xid k call → IsUnclosed h k
-      → Stands taken faults allows m h → Stands taken faults allows m' (h ++ lost_entry end xid buffers k ∷ [])
+      → Stands link taken faults allows m h → Stands link taken faults allows m' (h ++ lost_entry end xid buffers k ∷ [])
   loses m m' xid k call buffers ends.Memory h l ended asked unclosed st = lost_out m m' xid k call buffers h l ended asked unclosed st
   loses m m' xid k call buffers (ends.Bad at reason) h l ended asked unclosed st = lost_live m m' xid k call buffers (ends.Bad at reason) h l (other_end m.requester (ends.Bad at reason) ended (λ no. no)) ended asked unclosed st
   loses m m' xid k call buffers (ends.Denied stag to why) h l ended asked unclosed st = lost_live m m' xid k call buffers (ends.Denied stag to why) h l (other_end m.requester (ends.Denied stag to why) ended (λ no. no)) ended asked unclosed st

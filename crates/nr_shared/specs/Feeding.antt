@@ -13,7 +13,7 @@ use Rattle.nr_shared.specs.declared.entry.Stop.TheVariants as causes
 use Rattle.nr_shared.specs.declared.source_reader.SourceReader.{SourceReader}
 use Rattle.nr_shared.specs.declared.source_reader.InitialSource.{InitialSource}
 use Rattle.nr_shared.specs.Callers.{IsFeeding}
-use Rattle.nr_shared.specs.Histories.{PresentLink, bytes_fed, present, sink_of, tries_of}
+use Rattle.nr_shared.specs.Histories.{PresentLink, bytes_fed, present, tries_of}
 
 abbrev pub closes_none : {I O C D : Type 0} → InitialSource I O C D → Option ℕ
 closes_none b = None
@@ -50,10 +50,13 @@ pub record KeepsSource {I : Type 0} (link : I → ℕ) (left given : I → Optio
   pub stop : StopHolds present.stopped first.faults (faults source) (left source) read
 
 -- there is none if the last dial failed
-abbrev pub KeepsSourceOf : {I : Type 0} → (link : I → ℕ) → (left given : I → Option (List ℕ)) → (faults : I → ℕ) → (shared : InitialGiving) → Option I → Option InitialSink → (read : ℕ) → PresentLink → Type 0
-KeepsSourceOf link left given faults shared (Some source) (Some sink) read present = KeepsSource link left given faults shared source sink read present
-KeepsSourceOf link left given faults shared None None read present = ⊤
-KeepsSourceOf link left given faults shared source sink read present = ⊥
+abbrev pub KeepsSourceIf : {I : Type 0} → (link : I → ℕ) → (left given : I → Option (List ℕ)) → (faults : I → ℕ) → (shared : InitialGiving) → Option I → Option InitialSink → (read : ℕ) → PresentLink → Type 0
+KeepsSourceIf link left given faults shared (Some source) (Some sink) read present = KeepsSource link left given faults shared source sink read present
+KeepsSourceIf link left given faults shared None None read present = ⊤
+KeepsSourceIf link left given faults shared source sink read present = ⊥
+
+abbrev pub KeepsSourceOf : {I : Type 0} → (link : I → ℕ) → (left given : I → Option (List ℕ)) → (faults : I → ℕ) → (shared : InitialGiving) → Option I → (read : ℕ) → PresentLink → Type 0
+KeepsSourceOf link left given faults shared source read present = KeepsSourceIf link left given faults shared source present.sink read present
 
 -- ---- The dialer
 
@@ -80,7 +83,7 @@ pub record FeedsFor {I O C D : Type 0} (link : I → ℕ) (left given : I → Op
   pub outside : IsOutside s.pass
   pub lies : Lies (seen_by s.pass) (mine_of s.pass)
   pub feeding : IsFeeding s.pass
-  pub source : KeepsSourceOf link left given faults (shared_giving left given faults b.source.value) s.source (sink_of (seen_by s.pass)) s.read (present (seen_by s.pass))
+  pub source : KeepsSourceOf link left given faults (shared_giving left given faults b.source.value) s.source s.read (present (seen_by s.pass))
   pub dialer : KeepsDialer ended dialer_faults b.dialer.value s.dialer (present (seen_by s.pass))
   pub open_link : is_some (tries_of (seen_by s.pass)) ≡ true → HasOpenLink (ended b.dialer.value)
   pub read : s.read ≡ b.read + length (bytes_fed (seen_by s.pass))

@@ -36,7 +36,7 @@ pub record IsInitialHistory {O : Type 0} (link : O → ℕ) (taken : O → Optio
 abbrev pub GivesLink : {I O : Type 0} → (source_link : I → ℕ) → (left given : I → Option (List ℕ)) → (source_faults : I → ℕ) → (sink_link : O → ℕ) → (taken : O → Option (List ℕ)) → (sink_faults : O → ℕ)
     → (shared : InitialGiving) → (read : ℕ) → Option (I × O) → Option InitialSink → List Entry → Type 0
 GivesLink source_link left given source_faults sink_link taken sink_faults shared read (Some (source, sink)) (Some initial) history =
-    KeepsSink sink_link taken sink_faults sink initial history × KeepsSource source_link left given source_faults shared source initial read (present history)
+    KeepsSink sink_link taken sink_faults sink initial (present history) × KeepsSource source_link left given source_faults shared source initial read (present history)
 GivesLink source_link left given source_faults sink_link taken sink_faults shared read None None history = ⊤
 GivesLink source_link left given source_faults sink_link taken sink_faults shared read link initial history = ⊥
 

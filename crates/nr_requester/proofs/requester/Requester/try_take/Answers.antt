@@ -3,7 +3,7 @@ use Rattle.nr_requester.specs.RequesterState.{RequesterSide}
 use Rattle.nr_requester.specs.AfterCalls.{after_forget}
 use Rattle.nr_requester.specs.OpenCalls.{found_answer}
 use Rattle.nr_requester.proofs.FoundAnswers.{place_says, none_if}
-use Rattle.nr_requester.proofs.CallsKeep.{done_keeps, lost_keeps}
+use Rattle.nr_requester.proofs.CallsKeep.{done_keeps, done_stops, lost_keeps}
 use Rattle.nr_requester.proofs.GivenUp.{done_stands, lost_stands}
 use Rattle.nr_requester.specs.Fed.{fed_bytes}
 use Rattle.nr_requester.proofs.Tickets.{closed_as, forget_closes, fed_forgotten}
@@ -24,8 +24,9 @@ returns-then-is_some-clause-stands c =
 
 pub returns-then-is_some-clause-keeps : goal.returns-then-is_some-clause-keeps
 returns-then-is_some-clause-keeps c =
-    done_keeps c.args.self.now c.take_done.new.self c.args.ticket c.take_done.result.outcome (subst (λ (n : ℕ). n < c.args.self.now.state.next_xid) c.xid-then-is_some.ensures c.take_done.ensures.number)
-    (c.take_done.ensures.state ∙ ap (λ (n : ℕ). after_forget c.args.self.now n) c.xid-then-is_some.ensures)
+    let number = subst (λ (n : ℕ). n < c.args.self.now.state.next_xid) c.xid-then-is_some.ensures c.take_done.ensures.number in
+    let after = c.take_done.ensures.state ∙ ap (λ (n : ℕ). after_forget c.args.self.now n) c.xid-then-is_some.ensures in
+    (done_keeps c.args.self.now c.take_done.new.self c.args.ticket c.take_done.result.outcome number after, done_stops c.args.self.now c.take_done.new.self c.args.ticket c.take_done.result.outcome number after)
 
 pub returns-in-None-clause-taken : goal.returns-in-None-clause-taken
 returns-in-None-clause-taken c =
@@ -48,7 +49,8 @@ returns-in-Some-clause-stands c =
     (lost_stands c.args.self.now c.revoke-call.new.self c.args.ticket c.in-Some.end (sym c.end.ensures ∙ c.in-Some.is) c.revoke-call.ensures.number c.revoke-call.ensures.state, c.revoke-call.ensures.out)
 
 pub returns-in-Some-clause-keeps : goal.returns-in-Some-clause-keeps
-returns-in-Some-clause-keeps c = lost_keeps c.args.self.now c.revoke-call.new.self c.args.ticket c.in-Some.end (sym c.end.ensures ∙ c.in-Some.is) c.revoke-call.ensures.number c.revoke-call.ensures.state
+returns-in-Some-clause-keeps c =
+    (lost_keeps c.args.self.now c.revoke-call.new.self c.args.ticket c.in-Some.end (sym c.end.ensures ∙ c.in-Some.is) c.revoke-call.ensures.number c.revoke-call.ensures.state, c.revoke-call.ensures.stops)
 
 pub returns-then-is_some-clause-tickets : goal.returns-then-is_some-clause-tickets
 returns-then-is_some-clause-tickets c =
