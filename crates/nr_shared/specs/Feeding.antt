@@ -53,7 +53,7 @@ pub record KeepsSource {I : Type 0} (link : I → ℕ) (left given : I → Optio
 -- there is none if the last dial failed
 abbrev pub KeepsSourceIf : {I : Type 0} → (link : I → ℕ) → (left given : I → Option (List ℕ)) → (faults : I → ℕ) → (shared : InitialGiving) → Option I → Option InitialSink → (read : ℕ) → PresentLink → Type 0
 KeepsSourceIf link left given faults shared (Some source) (Some sink) read present = KeepsSource link left given faults shared source sink read present
-KeepsSourceIf link left given faults shared None None read present = ⊤
+KeepsSourceIf link left given faults shared None None read present = present.stopped ≡ Some causes.DialFault
 KeepsSourceIf link left given faults shared source sink read present = ⊥
 
 abbrev pub KeepsSourceOf : {I : Type 0} → (link : I → ℕ) → (left given : I → Option (List ℕ)) → (faults : I → ℕ) → (shared : InitialGiving) → Option I → (read : ℕ) → PresentLink → Type 0
@@ -66,10 +66,11 @@ abbrev pub HungUp : Option LinkLog → Option LinkLog → ℕ → Type 0
 HungUp (Some before) (Some after) n = (links : List EndedLink) × ((after.ended ≡ before.ended ++ links) × (length links ≡ n))
 HungUp before after n = ⊤
 
--- Each link that was left was hung up, and one more was made than hung up while there is a link. The dialer's count rose if and only if the last dial failed.
+-- Each link that was left was hung up, if the dialer always tells its log, and one more was made than hung up while there is a link. The dialer's count rose
+-- if and only if the last dial failed.
 pub record KeepsDialer {D : Type 0} (ended : D → Option LinkLog) (faults : D → ℕ) (shared dialer : D) (present : PresentLink) : Type 0 where
   pub open_link : is_some present.sink ≡ true → HasOpenLink (ended shared) → HasOpenLink (ended dialer)
-  pub hung_up : HungUp (ended shared) (ended dialer) present.left
+  pub hung_up : ((d : D) → is_some (ended d) ≡ true) → HungUp (ended shared) (ended dialer) present.left
   pub counted : present.stopped ≢ Some causes.DialFault → faults dialer ≡ faults shared
   pub failed : present.stopped ≡ Some causes.DialFault → Rises (faults shared) (faults dialer)
 
