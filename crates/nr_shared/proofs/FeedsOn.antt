@@ -1,5 +1,5 @@
 -- The pass that feeds, with the source and the dialer: after a turn, a read, and a dial.
-use Rattle.std.proofs.Common.{◌≡◌, ◌≢◌, ℕ, zero, suc, ◌+◌, ◌≤◌, ◌||◌, arith, Bool, true, false, is_some, List, [], ◌∷◌, ◌++◌, length, length-append, append-assoc, append-nil, Option, Some, None, refl, sym, ap, subst, ◌∙◌}
+use Rattle.std.proofs.Common.{◌≡◌, ◌≢◌, ℕ, zero, suc, ◌+◌, ◌≤◌, ◌||◌, arith, Bool, true, false, is_some, List, [], ◌∷◌, ◌++◌, length, length-append, append_assoc, append-nil, Option, Some, None, refl, sym, ap, subst, ◌∙◌}
 use Rattle.std.specs.Prelude.{IfSome, MatchBool}
 use mathlib.Core.Option.{some-injective}
 use lib.ListN.{get_elem?}
@@ -32,9 +32,15 @@ use Rattle.nr_shared.proofs.Moving.{rises_from}
 pub lies_same : {O C : Type 0} (r s : Pass (RequesterWithSink O C) Entry) → seen_by s ≡ seen_by r → mine_of s ≡ mine_of r → Lies (seen_by r) (mine_of r) → Lies (seen_by s) (mine_of s)
 lies_same r s seen mine l = subst (λ (x : List Entry). Lies x (mine_of s)) (sym seen) (subst (λ (m : List ℕ). Lies (seen_by r) m) (sym mine) l)
 
+none_some : {A : Type 0} (x : A) → None ≡ Some x → ⊥
+none_some x e = absurd cc
+
+true_false : true ≡ false → ⊥
+true_false e = absurd cc
+
 none_dial : (out : Bool) (piece : List ℕ) (n : ℕ) (l : PresentLink) → l.stopped ≡ None → (present_after l (fed_entry out piece n)).stopped ≢ Some causes.DialFault
-none_dial true piece n l goes e = absurd (some-injective causes.Memory causes.DialFault e)
-none_dial false piece n l goes e = absurd (sym goes ∙ e)
+none_dial true piece n l goes e = absurd cc
+none_dial false piece n l goes e = none_some causes.DialFault (sym goes ∙ e)
 
 -- a cause that is met now holds of the source since its bytes began to move
 holds_since : (cause : Stop) (before faults faults' : ℕ) (left : Option (List ℕ)) (read : ℕ) → before ≤ faults → StopHolds (Some cause) faults faults' left read → StopHolds (Some cause) before faults' left read
@@ -110,7 +116,7 @@ module _ {I : Type 0} (link : I → ℕ) (left given : I → Option (List ℕ)) 
     stop = holds_since cause k.first.faults (faults source) (faults source') (left source') read k.never_falls holds;
   } where
     differs : (c : Stop) → is_read_fault c ≡ false → c ≢ causes.LinkRead
-    differs c is e = absurd (sym (ap is_read_fault e) ∙ is)
+    differs c is e = true_false (sym (ap is_read_fault e) ∙ is)
 
     or_false : (x y : Bool) → (x || y) ≡ false → (x ≡ false) × (y ≡ false)
     or_false true y e = absurd cc
@@ -175,8 +181,8 @@ module _ {D : Type 0} (ended : D → Option LinkLog) (faults : D → ℕ) where
 ends_one : (a b log : Option LinkLog) (n : ℕ) (e : EndedLink) → is_some b ≡ true → EndsLink b log e → HungUp a b n → HungUp a log (n + 1)
 ends_one None b log n e known ends h = tt
 ends_one (Some x) None log n e known ends h = absurd cc
-ends_one (Some x) (Some y) log n e known ends (links, is, count) = subst (λ (o : Option LinkLog). HungUp (Some x) o (n + 1)) (sym ends)
-    (links ++ e ∷ [], ap (λ (l : List EndedLink). l ++ e ∷ []) is ∙ append-assoc x.ended links (e ∷ []), (let l = length-append links (e ∷ []) in omega (arith, l, count)))
+ends_one (Some x) (Some y) log n e known ends (links, (is, count)) = subst (λ (o : Option LinkLog). HungUp (Some x) o (n + 1)) (sym ends)
+    (links ++ e ∷ [], (ap (λ (l : List EndedLink). l ++ e ∷ []) is ∙ append_assoc x.ended links (e ∷ []), (let l = length-append links (e ∷ []) in omega (arith, l, count))))
 
 makes_one : (a log c : Option LinkLog) (n : ℕ) → MakesLink log c → HungUp a log n → is_some log ≡ true → HungUp a c n
 makes_one None log c n makes h known = tt
@@ -216,7 +222,7 @@ module _ {I O D : Type 0} (link : I → ℕ) (left given : I → Option (List �
   pub source_next : (shared : InitialGiving) (o o' : Option I) (k k' : Option O) (read : ℕ) (l : PresentLink) (dialer dialer' : D) (addr : List ℕ) (previous : ℕ) → DialsNext link left given faults sink_link taken sink_faults asked ended dialer_faults o o' k k' dialer dialer' addr
       → KeepsSourceOf link left given faults shared o' read (present_after l (entries.Rejoin (initial_sink sink_link taken sink_faults k') previous))
   source_next shared o (Some source) k (Some sink) read l dialer dialer' addr previous d =
-      next_if link left given faults shared source (record { link = sink_link sink; faults = sink_faults sink; taken = taken sink }) read previous l d.next.0 d.next.1.no_source_fault d.next.1.nothing_given
+      next_if link left given faults shared source (record { link = sink_link sink; faults = sink_faults sink; taken = taken sink }) read previous l d.next.0 d.next.1.0.no_source_fault d.next.1.0.nothing_given
   source_next shared o None k None read l dialer dialer' addr previous d = refl
   source_next shared o (Some source) k None read l dialer dialer' addr previous d = absurd d.next
   source_next shared o None k (Some sink) read l dialer dialer' addr previous d = absurd d.next
@@ -235,16 +241,16 @@ module _ {I O D : Type 0} (link : I → ℕ) (left given : I → Option (List �
     by_next : (x : Option I) (y : Option O) → IsNext link given faults sink_link taken sink_faults x y addr (asked dialer) (asked dialer') d.log (ended dialer') (dialer_faults dialer) (dialer_faults dialer')
         → KeepsDialer ended dialer_faults first dialer' (present_after l (entries.Rejoin (initial_sink sink_link taken sink_faults y) previous))
     by_next (Some a) (Some b) n = record {
-      open_link = λ some opened. n.3.1;
-      hung_up = λ known. (let e = ended_one o k l.sink source sink d.hung_up known in makes_one (ended first) d.log (ended dialer') (l.left + 1) n.3 e.0 e.1);
-      counted = λ no. n.4 ∙ keeps.counted lost;
+      open_link = λ some opened. n.1.1.1.0.1;
+      hung_up = λ known. (let e = ended_one o k l.sink source sink d.hung_up known in makes_one (ended first) d.log (ended dialer') (l.left + 1) n.1.1.1.0 e.0 e.1);
+      counted = λ no. n.1.1.1.1 ∙ keeps.counted lost;
       failed = λ is. absurd cc;
     }
     by_next None None n = record {
       open_link = λ some opened. absurd cc;
-      hung_up = λ known. (let e = ended_one o k l.sink source sink d.hung_up known in subst (λ (z : Option LinkLog). HungUp (ended first) z (l.left + 1)) (sym n.1) e.0);
+      hung_up = λ known. (let e = ended_one o k l.sink source sink d.hung_up known in subst (λ (z : Option LinkLog). HungUp (ended first) z (l.left + 1)) (sym n.1.0) e.0);
       counted = λ no. absurd (no refl);
-      failed = λ is. subst (λ (z : ℕ). Rises z (dialer_faults dialer')) (keeps.counted lost) n.2;
+      failed = λ is. subst (λ (z : ℕ). Rises z (dialer_faults dialer')) (keeps.counted lost) n.1.1;
     }
     by_next (Some a) None n = absurd n
     by_next None (Some b) n = absurd n
