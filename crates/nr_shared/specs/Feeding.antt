@@ -1,5 +1,5 @@
 -- The source of a link, and the pass that feeds what it gives.
-use Rattle.std.specs.Prelude.{◌≡◌, ◌≢◌, ⊤, ℕ, zero, suc, ◌+◌, ◌≤◌, true, List, [], ◌∷◌, ◌++◌, length, Option, None, Some, IfSome, is_some}
+use Rattle.std.specs.Prelude.{◌≡◌, ◌≢◌, ⊤, ℕ, zero, suc, ◌+◌, ◌≤◌, true, false, List, [], ◌∷◌, ◌++◌, length, Option, None, Some, IfSome, is_some}
 use Rattle.std.specs.Io.KnownBytes.{IsAtEnd}
 use Rattle.nr_outside.specs.Content.{HandsOut}
 use Rattle.nr_outside.specs.Faults.{Rises}
@@ -46,7 +46,8 @@ pub record KeepsSource {I : Type 0} (link : I → ℕ) (left given : I → Optio
   pub is_first : IsFirstGiving shared present.left first
   pub gave : HandsOut first.left first.given (left source) (given source) present.fed
   pub never_falls : first.faults ≤ faults source
-  pub counted : present.stopped ≢ Some causes.LinkRead → faults source ≡ first.faults
+  pub failed : present.read_failed ≡ true → Rises first.faults (faults source)
+  pub counted : present.read_failed ≡ false → faults source ≡ first.faults
   pub stop : StopHolds present.stopped first.faults (faults source) (left source) read
 
 -- there is none if the last dial failed

@@ -1,5 +1,5 @@
 -- The history of a shared requester: which entries close which, and what it says of the link at hand.
-use Rattle.std.specs.Prelude.{◌≡◌, ⊤, ℕ, ◌+◌, Bool, true, false, ◌==◌, is_some, if◌then◌else◌, List, [], ◌∷◌, ◌++◌, Option, None, Some}
+use Rattle.std.specs.Prelude.{◌≡◌, ⊤, ℕ, ◌+◌, Bool, true, false, ◌==◌, ◌||◌, is_some, if◌then◌else◌, List, [], ◌∷◌, ◌++◌, Option, None, Some}
 use Rattle.std.specs.List.{flat_map}
 use mathlib.Core.Option.{some}
 use lib.ListN.{get_elem?}
@@ -82,12 +82,13 @@ bytes_fed history = flat_map fed_by history
 -- ---- The link at hand
 
 -- What the entries so far tell of it: its sink when its bytes began to move, or none if its dial failed; the bytes that its sink took, and those that were
--- fed over it; whether a write failed; why no more is fed; and how many links were left before it.
+-- fed over it; whether a write failed, and whether a read did; why no more is fed; and how many links were left before it.
 pub record PresentLink : Type 0 where
   pub sink : Option InitialSink
   pub written : List ℕ
   pub fed : List ℕ
   pub write_failed : Bool
+  pub read_failed : Bool
   pub stopped : Option Stop
   pub left : ℕ
 
@@ -95,14 +96,18 @@ abbrev pub stopped_by_dial : Option InitialSink → Option Stop
 stopped_by_dial None = Some causes.DialFault
 stopped_by_dial (Some sink) = None
 
+abbrev pub is_read_fault : Stop → Bool
+is_read_fault causes.LinkRead = true
+is_read_fault cause = false
+
 abbrev pub present_after : PresentLink → Entry → PresentLink
 present_after l (entries.Initial initial) = record l { sink = Some initial.sink }
 present_after l (entries.Wrote bytes) = record l { written = l.written ++ bytes }
 present_after l (entries.Fed bytes previous) = record l { fed = l.fed ++ bytes }
 present_after l entries.WriteFailed = record l { write_failed = true }
-present_after l (entries.Stopped cause previous) = record l { stopped = Some cause }
+present_after l (entries.Stopped cause previous) = record l { read_failed = l.read_failed || is_read_fault cause; stopped = Some cause }
 present_after l (entries.OutOfMemory piece previous) = record l { fed = l.fed ++ piece; stopped = Some causes.Memory }
-present_after l (entries.Rejoin sink previous) = record { sink = sink; written = []; fed = []; write_failed = false; stopped = stopped_by_dial sink; left = l.left + 1 }
+present_after l (entries.Rejoin sink previous) = record { sink = sink; written = []; fed = []; write_failed = false; read_failed = false; stopped = stopped_by_dial sink; left = l.left + 1 }
 present_after l entry = l
 
 abbrev pub present_from : PresentLink → List Entry → PresentLink
@@ -110,7 +115,7 @@ present_from l [] = l
 present_from l (e ∷ es) = present_from (present_after l e) es
 
 abbrev pub no_link : PresentLink
-no_link = record { sink = None; written = []; fed = []; write_failed = false; stopped = None; left = 0 }
+no_link = record { sink = None; written = []; fed = []; write_failed = false; read_failed = false; stopped = None; left = 0 }
 
 abbrev pub present : List Entry → PresentLink
 present history = present_from no_link history

@@ -10,7 +10,7 @@ ghost use Rattle.nr_shared.specs.Callers.{IsFeeding, IsReady};
 ghost use Rattle.nr_shared.specs.Draining.{initial_sink};
 ghost use Rattle.nr_shared.specs.Histories.{last_feeding};
 ghost use Rattle.nr_shared.specs.Output.{MayFeed, MayRejoin, MayStop};
-ghost use Rattle.nr_shared.specs.Dialing.{CannotReopen, DialsNext, HasLink, Rejoins, Stays};
+ghost use Rattle.nr_shared.specs.Dialing.{CannotReopen, DialsNext, HasLink, LinkHungUp};
 ghost use Rattle.nr_shared.specs.private.Reading.{IsUnmoved, Redials, cause_of_refusal};
 ghost use Rattle.nr_shared.specs.Standing.{Stands};
 
@@ -38,6 +38,25 @@ impl Stop {
     }
 }
 
+/// Hangs up a link, if there is one.
+fn hang_up_link<I: LinkSource, O: LinkSink, D: Dialer<Source = I, Sink = O>>(
+    source: Option<I>,
+    sink: Option<O>,
+    dialer: &mut D,
+)
+    requires { HasLink I.link O.link D.ended source sink dialer.old }
+    ensures hung_up { LinkHungUp I.link I.left I.given O.taken source sink (D.ended dialer.old) (D.ended dialer.new) }
+    ensures asked { D.asked dialer.new ≡ D.asked dialer.old }
+    ensures faults { D.faults dialer.new ≡ D.faults dialer.old }
+{
+    match (source, sink) {
+        (Some(source), Some(sink)) => dialer.hang_up(source, sink),
+        (None, None) => {}
+        (Some(_), None) => unreachable!(),
+        (None, Some(_)) => unreachable!(),
+    }
+}
+
 /// Hangs up a link, if there is one, and dials the next.
 fn next_link<I: LinkSource + Drop, O: LinkSink + Drop, D: Dialer<Source = I, Sink = O>>(
     source: &mut Option<I>,
@@ -48,12 +67,13 @@ fn next_link<I: LinkSource + Drop, O: LinkSink + Drop, D: Dialer<Source = I, Sin
     requires { HasLink I.link O.link D.ended source.old sink.old dialer.old }
     ensures { DialsNext I.link I.left I.given I.faults O.link O.taken O.faults D.asked D.ended D.faults source.old source.new sink.old sink.new dialer.old dialer.new addr.now }
 {
-    if let (Some(source), Some(sink)) = (source.take(), sink.take()) {
-        dialer.hang_up(source, sink);
-    }
-    if let Ok((next_source, next_sink)) = dialer.dial(addr) {
-        *source = Some(next_source);
-        *sink = Some(next_sink);
+    hang_up_link(source.take(), sink.take(), dialer);
+    match dialer.dial(addr) {
+        Ok((next_source, next_sink)) => {
+            *source = Some(next_source);
+            *sink = Some(next_sink);
+        }
+        Err(_) => {}
     }
 }
 

@@ -1,13 +1,23 @@
 //! A requester with its sink. Each call of it adds entries to one history.
 
-ghost use Rattle.std.specs.Prelude.{◌≡◌, ◌≢◌, ℕ, ◌+◌, ◌<◌, ◌≤◌, length, None, Some, true, is_some, [], ◌∷◌, ◌++◌, List, IfOk, IfErr, IfSome, OnErr};
+ghost use Rattle.std.specs.Prelude.{◌≡◌, ◌≢◌, ℕ, ◌+◌, ◌<◌, ◌≤◌, length, take, None, Some, true, is_some, [], ◌∷◌, ◌++◌, List, IfOk, IfErr, IfSome, OnErr, OnOk, MatchResult};
+ghost use Rattle.std.specs.Io.KnownBytes.{Appends};
+ghost use Rattle.nr_outside.specs.Faults.{Rises};
+ghost use Rattle.nr_wire.specs.declared.hello.Side.TheVariants.{Initiator};
+ghost use Rattle.nr_endpoint.specs.declared.fault.DrainFault.TheVariants as drains;
+ghost use Rattle.nr_reduce.specs.declared.mark.Mark.TheVariants as marks;
+ghost use Rattle.nr_requester.specs.AfterCalls.{after_drain};
+ghost use Rattle.nr_requester.specs.Fed.{fed_bytes};
+ghost use Rattle.nr_requester.specs.ReopenedLinks.{KeepsOn};
+ghost use Rattle.nr_requester.specs.RequesterState.{queue_of};
+ghost use Rattle.nr_requester.specs.Standing.{StandsOn, StaysOut};
 ghost use Rattle.nr_rpc.specs.Credential.{CanWriteCred};
 ghost use Rattle.nr_reduce.specs.declared.call.Submission.TheVariants as submissions;
 ghost use Rattle.nr_reduce.specs.declared.call.Refused.TheVariants as refusals;
 ghost use Rattle.nr_reduce.specs.declared.call.Call.{Call};
 ghost use Rattle.nr_requester.specs.Answers.{answer_of};
 ghost use Rattle.nr_requester.specs.MaySubmit.{may_submit};
-ghost use Rattle.nr_requester.specs.OpenCalls.{found_answer};
+ghost use Rattle.nr_requester.specs.OpenCalls.{KeepsTickets, found_answer};
 
 use crate::call_end::CallEnd;
 use crate::call_rule::CallRule;
@@ -100,17 +110,17 @@ impl<O: LinkSink + Drop, C: CallRule> RequesterWithSink<O, C> {
     ghost use Rattle.nr_shared.specs.declared.entry.Entry.{Entry};
     ghost use Rattle.nr_shared.specs.declared.entry.Entry.TheVariants as entries;
     ghost use Rattle.nr_shared.specs.Standing.{Stands, Becomes};
-    ghost use Rattle.nr_shared.specs.Histories.{IsCallAt, IsUnclosed, bytes_fed, last_feeding};
+    ghost use Rattle.nr_shared.specs.Histories.{IsCallAt, IsUnclosed, bytes_fed, is_lost_by, last_feeding};
     ghost use Rattle.nr_shared.specs.Draining.{drained_entries, fed_entry};
     ghost use Rattle.nr_shared.specs.private.Flushed.{IsFlushed};
     ghost use Rattle.nr_shared.specs.private.Taking.{IsDone, TakenBy};
     ghost use Rattle.nr_shared.specs.declared.entry.Stop.TheVariants as causes;
     ghost use Rattle.nr_links.specs.Limits.{read_max};
     ghost use Rattle.nr_requester.specs.Buffers.{bytes_of_buffers};
-    ghost use Rattle.nr_requester.specs.OpenCalls.{KeepsTickets};
-    ghost use Rattle.nr_shared.specs.Ending.{LinkEnded};
+    ghost use Rattle.nr_shared.specs.Ending.{LinkEnded, LossEnds};
     ghost use Rattle.nr_shared.specs.Opening.{IsInitialHistory};
-    ghost use Rattle.nr_shared.specs.Output.{IsCallOutstanding, MayStop};
+    ghost use Rattle.nr_shared.specs.Output.{IsCallOutstanding, IsTryLeft, MayStop};
+    ghost use Rattle.nr_shared.specs.private.Needs.{GoesOn};
 
     /// A requester that is shared, with its sink. Output may be pending.
     pub(crate) fn of_parts(
@@ -137,48 +147,61 @@ impl<O: LinkSink + Drop, C: CallRule> RequesterWithSink<O, C> {
     /// Why no answer comes any more, if so.
     pub(crate) fn end(&self) -> Option<CallEnd>
         ensures some { IfSome result (λ end. (history : List Entry) → Stands O.link O.taken O.faults C.allows self.now history → LinkEnded end history) }
-        ensures none { result ≡ None → (self.now.requester.state.side.ended ≡ None) × (self.now.stopped ≡ None) }
+        ensures none { result ≡ None → (self.now.requester.state.side.ended ≡ None) × GoesOn self.now }
     {
         if let Some(end) = self.requester.end() {
             return Some(CallEnd::Ended(end));
         }
         match self.stopped {
-            Some(Stop::Budget) => return Some(CallEnd::Budget { read: READ_MAX }),
-            Some(Stop::Memory) => return Some(CallEnd::Ended(End::Memory)),
-            Some(Stop::DialFault) => return Some(CallEnd::DialFault),
-            Some(Stop::NotReopened) => return Some(CallEnd::Ended(End::Memory)),
-            Some(Stop::Spent { left, need }) => return Some(CallEnd::Spent { left, need }),
-            Some(Stop::LinkRead) | Some(Stop::Closed) | None => {}
-        }
-        match self.loss() {
-            None => None,
-            Some(loss) => self.end_of_loss(loss),
+            Some(Stop::Budget) => Some(CallEnd::Budget { read: READ_MAX }),
+            Some(Stop::Memory) | Some(Stop::NotReopened) => Some(CallEnd::Ended(End::Memory)),
+            Some(Stop::DialFault) => Some(CallEnd::DialFault),
+            Some(Stop::Spent { left, need }) => Some(CallEnd::Spent { left, need }),
+            Some(Stop::LinkRead) | Some(Stop::Closed) | None => self.end_of_loss(),
         }
     }
 
-    /// How the link was lost, if it was.
-    fn loss(&self) -> Option<CallEnd> {
+    /// A loss is an end, unless the link may be dialled again.
+    fn end_of_loss(&self) -> Option<CallEnd>
+        ensures some { IfSome result (λ end. (history : List Entry) → Stands O.link O.taken O.faults C.allows self.now history → LinkEnded end history) }
+        ensures none { result ≡ None → is_lost_by self.now.write_failed self.now.stopped ≡ true → IsTryLeft self.now.tries self.now.rejoined }
+    {
+        let Some(loss) = self.loss() else {
+            return None;
+        };
+        match self.tries {
+            None => Some(loss),
+            Some(n) => {
+                if self.rejoined < n {
+                    None
+                } else {
+                    Some(CallEnd::Tries { n })
+                }
+            }
+        }
+    }
+
+    /// How the link at hand was lost, if it was.
+    fn loss(&self) -> Option<CallEnd>
+        ensures lost { is_some result ≡ is_lost_by self.now.write_failed self.now.stopped }
+        ensures how { IfSome result (λ loss. (history : List Entry) → Stands O.link O.taken O.faults C.allows self.now history → LossEnds None loss history) }
+    {
+        let read_end = match self.stopped {
+            None => None,
+            Some(Stop::LinkRead) => Some(CallEnd::LinkRead),
+            Some(Stop::Closed) => Some(CallEnd::Closed),
+            Some(_) => return None,
+        };
         if self.write_failed {
             return Some(CallEnd::LinkWrite);
         }
-        match self.stopped {
-            Some(Stop::LinkRead) => Some(CallEnd::LinkRead),
-            Some(Stop::Closed) => Some(CallEnd::Closed),
-            _ => None,
-        }
+        read_end
     }
 
-    /// A loss ends the link, unless it may be dialled again.
-    fn end_of_loss(&self, loss: CallEnd) -> Option<CallEnd> {
-        match self.tries {
-            None => Some(loss),
-            Some(n) if self.rejoined >= n => Some(CallEnd::Tries { n }),
-            Some(_) => None,
-        }
-    }
-
-    /// Whether the link is lost.
-    pub(crate) fn is_lost(&self) -> bool {
+    /// Whether the link at hand is lost.
+    pub(crate) fn is_lost(&self) -> bool
+        ensures { result ≡ is_lost_by self.now.write_failed self.now.stopped }
+    {
         self.loss().is_some()
     }
 

@@ -19,26 +19,26 @@ use Rattle.nr_shared.proofs.shared.SharedRequester.feed.Goals as goal
 
 pub feed_under-out_of_memory-requires-clause-feeding : goal.feed_under-out_of_memory-requires-clause-feeding
 feed_under-out_of_memory-requires-clause-feeding g c = let t = c.take_turn-turn.ensures.got.1 in
-    let al = alone g.O.Sink.taken g.O.Sink.faults g.C.CallRule.allows c.take_turn-turn.result.turnstile.now c.args.feeding.now (pass_of c.take_turn-turn.result) t.0 c.requires.lies t t.2 c.requires.feeding in
+    let al = alone g.O.LinkSink.link g.O.Sink.taken g.O.Sink.faults g.C.CallRule.allows c.take_turn-turn.result.turnstile.now c.args.feeding.now (pass_of c.take_turn-turn.result) t.0 c.requires.lies t t.2 c.requires.feeding in
     let be = alone_writes (pass_of c.take_turn-turn.result) (pass_of c.drain_under.new.turn) c.drain_under.ensures.wrote t.7 al.feeding in
     be.feeding
 
 pub feed_under-out_of_memory-requires-clause-goes : goal.feed_under-out_of_memory-requires-clause-goes
 feed_under-out_of_memory-requires-clause-goes g c = let t = c.take_turn-turn.ensures.got.1 in
-    let al = alone g.O.Sink.taken g.O.Sink.faults g.C.CallRule.allows c.take_turn-turn.result.turnstile.now c.args.feeding.now (pass_of c.take_turn-turn.result) t.0 c.requires.lies t t.2 c.requires.feeding in
+    let al = alone g.O.LinkSink.link g.O.Sink.taken g.O.Sink.faults g.C.CallRule.allows c.take_turn-turn.result.turnstile.now c.args.feeding.now (pass_of c.take_turn-turn.result) t.0 c.requires.lies t t.2 c.requires.feeding in
     let be = alone_writes (pass_of c.take_turn-turn.result) (pass_of c.drain_under.new.turn) c.drain_under.ensures.wrote t.7 al.feeding in
     let r = c.drain_under.ensures.ready in
     λ y has. ap (λ (z : RequesterWithSink g.row.O.Denot g.row.C.Denot). z.stopped) (same_value _ y r.value has.1 r.has.1) ∙ (r.stands.stopped ∙ (be.stop ∙ (al.stop ∙ c.requires.goes)))
 
 pub feed_under-out_of_memory-requires-clause-room : goal.feed_under-out_of_memory-requires-clause-room
 feed_under-out_of_memory-requires-clause-room g c = let t = c.take_turn-turn.ensures.got.1 in
-    let al = alone g.O.Sink.taken g.O.Sink.faults g.C.CallRule.allows c.take_turn-turn.result.turnstile.now c.args.feeding.now (pass_of c.take_turn-turn.result) t.0 c.requires.lies t t.2 c.requires.feeding in
+    let al = alone g.O.LinkSink.link g.O.Sink.taken g.O.Sink.faults g.C.CallRule.allows c.take_turn-turn.result.turnstile.now c.args.feeding.now (pass_of c.take_turn-turn.result) t.0 c.requires.lies t t.2 c.requires.feeding in
     let be = alone_writes (pass_of c.take_turn-turn.result) (pass_of c.drain_under.new.turn) c.drain_under.ensures.wrote t.7 al.feeding in
     subst (λ (b : List ℕ). length b + length c.args.piece.now ≤ read_max) (sym (be.bytes ∙ al.bytes)) c.requires.room
 
 pub feed_under-out_of_memory-requires-clause-outstanding : goal.feed_under-out_of_memory-requires-clause-outstanding
 feed_under-out_of_memory-requires-clause-outstanding g c = let t = c.take_turn-turn.ensures.got.1 in
-    let al = alone g.O.Sink.taken g.O.Sink.faults g.C.CallRule.allows c.take_turn-turn.result.turnstile.now c.args.feeding.now (pass_of c.take_turn-turn.result) t.0 c.requires.lies t t.2 c.requires.feeding in
+    let al = alone g.O.LinkSink.link g.O.Sink.taken g.O.Sink.faults g.C.CallRule.allows c.take_turn-turn.result.turnstile.now c.args.feeding.now (pass_of c.take_turn-turn.result) t.0 c.requires.lies t t.2 c.requires.feeding in
     let be = alone_writes (pass_of c.take_turn-turn.result) (pass_of c.drain_under.new.turn) c.drain_under.ensures.wrote t.7 al.feeding in
     be.outstanding (al.outstanding c.requires.outstanding)
 
@@ -50,7 +50,7 @@ returns-clause-feeding g c =
 
 pub returns-clause-fed : goal.returns-clause-fed
 returns-clause-fed g c = let t = c.take_turn-turn.ensures.got.1 in let seen = seen_by (pass_of c.drain_under.new.turn) in let out = c.feed_under-out_of_memory.result in let piece = c.args.piece.now in
-    let al = alone g.O.Sink.taken g.O.Sink.faults g.C.CallRule.allows c.take_turn-turn.result.turnstile.now c.args.feeding.now (pass_of c.take_turn-turn.result) t.0 c.requires.lies t t.2 c.requires.feeding in
+    let al = alone g.O.LinkSink.link g.O.Sink.taken g.O.Sink.faults g.C.CallRule.allows c.take_turn-turn.result.turnstile.now c.args.feeding.now (pass_of c.take_turn-turn.result) t.0 c.requires.lies t t.2 c.requires.feeding in
     let be = alone_writes (pass_of c.take_turn-turn.result) (pass_of c.drain_under.new.turn) c.drain_under.ensures.wrote t.7 al.feeding in
     subst (λ (z : Pass (RequesterWithSink g.row.O.Denot g.row.C.Denot) Entry). bytes_fed (seen_by z) ≡ bytes_fed (seen_by c.args.feeding.now) ++ piece) (sym (c.feeding-1.given.1 (sym (c.drain_under-2.ensures.same.1 ∙ (c.feed_under-out_of_memory.ensures.same.1 ∙ (c.drain_under.ensures.same.1 ∙ c.take_turn-turn.ensures.borrow))))))
     (ap (λ (l : List Entry). bytes_fed l) c.put_back.ensures.1
@@ -67,7 +67,7 @@ returns-clause-lies g c =
 
 pub returns-clause-stop : goal.returns-clause-stop
 returns-clause-stop g c = let t = c.take_turn-turn.ensures.got.1 in let seen = seen_by (pass_of c.drain_under.new.turn) in let out = c.feed_under-out_of_memory.result in let piece = c.args.piece.now in
-    let al = alone g.O.Sink.taken g.O.Sink.faults g.C.CallRule.allows c.take_turn-turn.result.turnstile.now c.args.feeding.now (pass_of c.take_turn-turn.result) t.0 c.requires.lies t t.2 c.requires.feeding in
+    let al = alone g.O.LinkSink.link g.O.Sink.taken g.O.Sink.faults g.C.CallRule.allows c.take_turn-turn.result.turnstile.now c.args.feeding.now (pass_of c.take_turn-turn.result) t.0 c.requires.lies t t.2 c.requires.feeding in
     let be = alone_writes (pass_of c.take_turn-turn.result) (pass_of c.drain_under.new.turn) c.drain_under.ensures.wrote t.7 al.feeding in
     let e = fed_after seen out piece in
     stops_if out piece (place_or_none (last_feeding seen)) (stop_of (seen_by c.feeding-1.given.0))
