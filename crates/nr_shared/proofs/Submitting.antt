@@ -1,5 +1,5 @@
 -- A call that is submitted, and bytes that are written before and after it.
-use Rattle.std.proofs.Common.{◌≡◌, ◌≢◌, ℕ, List, [], ◌∷◌, ◌++◌, length, length-append, arith, ◌≤◌, Result, Ok, Err, refl, sym, ap, subst, ◌∙◌, append_assoc, append-nil}
+use Rattle.std.proofs.Common.{◌≡◌, ◌≢◌, ℕ, List, [], ◌∷◌, ◌++◌, length, length-append, arith, ◌≤◌, Result, Ok, Err, refl, sym, ap, subst, ◌∙◌, append_assoc, append-nil, inr}
 use mathlib.Core.Option.{some}
 use lib.ListN.{get_elem?}
 use Rattle.atomic_table.proofs.Lists.{at_last, at_longer}
@@ -42,6 +42,7 @@ both_write (entries.Lost x asked ∷ xs) ys one two = absurd one
 both_write (entries.Forget x asked ∷ xs) ys one two = absurd one
 both_write (entries.Revoke x bytes asked ∷ xs) ys one two = absurd one
 both_write (entries.Stopped cause previous ∷ xs) ys one two = absurd one
+both_write (entries.Rejoin sink previous ∷ xs) ys one two = absurd one
 both_write (entries.OutOfMemory piece previous ∷ xs) ys one two = absurd one
 
 -- what is written before a call is closed is written after its Submit
@@ -55,7 +56,9 @@ link_cause calls.LinkRead call form h is = is
 link_cause calls.LinkWrite call form h is = is
 link_cause calls.Closed call form h is = is
 link_cause (calls.Budget read) call form h is = is
-link_cause (calls.Spent left need) call form h is = absurd is
+link_cause (calls.Tries n) call form h is = is
+link_cause calls.DialFault call form h is = is
+link_cause (calls.Spent left need) call form h is = inr is
 link_cause (calls.TooLarge need room) call form h is = absurd is
 link_cause calls.Memory call form h is = absurd is
 
