@@ -1,5 +1,5 @@
 -- Why a call has no answer: what the value has says it of each history that it stands for.
-use Rattle.std.proofs.Common.{◌≡◌, ◌≢◌, ℕ, ◌<◌, ◌-◌, ◌&&◌, Bool, true, false, ltb, if◌then◌else◌, List, [], ◌∷◌, length, Option, Some, None, Result, Ok, Err, refl, sym, ap, subst, ◌∙◌, unwrap_or, inl}
+use Rattle.std.proofs.Common.{◌≡◌, ◌≢◌, ℕ, ◌<◌, ◌-◌, ◌&&◌, Bool, true, false, ltb, if◌then◌else◌, List, [], ◌∷◌, length, Option, Some, None, Result, Ok, Err, refl, sym, ap, subst, ◌∙◌, unwrap_or}
 use Rattle.std.specs.Prelude.{⊤, ◌==◌, nat_lt}
 use Rattle.std.specs.List.{AllByRecursion}
 use Rattle.nr_link.specs.declared.end.End.{End}
@@ -30,7 +30,7 @@ use Rattle.nr_shared.specs.declared.entry.Stop.{Stop}
 use Rattle.nr_shared.specs.declared.entry.Stop.TheVariants as causes
 use Rattle.nr_shared.specs.declared.entry.InitialState.{InitialState}
 use Rattle.nr_shared.specs.declared.requester_with_sink.RequesterWithSink.{RequesterWithSink}
-use Rattle.nr_shared.specs.Ending.{ClientEnded, ClientRefuses, EndsSo, HasCredit, HasEnded, IsRefused}
+use Rattle.nr_shared.specs.Ending.{ClientEnded, ClientRefuses, HasCredit, HasEnded, IsRefused}
 use Rattle.nr_shared.specs.Histories.{initial_of, rejoins, stop_of}
 use Rattle.nr_shared.specs.LinkRuns.{FitsHistory, FitsInitialState, LinkRun, OpenedLink, is_of, links_of}
 use Rattle.nr_shared.specs.LinkStanding.{IsLeft, IsLiveOn, IsOutOn, KeepsLinkLaw}
@@ -107,14 +107,6 @@ module _ {O C : Type 0} (link : O → ℕ) (taken : O → Option (List ℕ)) (fa
   ended_is m h (ends.Denied stag to why) st is = other_ended m h (ends.Denied stag to why) st (λ no. no) is
   ended_is m h (ends.NoBuffer at) st is = other_ended m h (ends.NoBuffer at) st (λ no. no) is
   ended_is m h (ends.Terminated reason) st is = other_ended m h (ends.Terminated reason) st (λ no. no) is
-
--- so it has for a caller that waits
-pub ends_so : (end : End) (h : List Entry) → HasEnded end h → EndsSo end h
-ends_so ends.Memory h is = inl is
-ends_so (ends.Bad at reason) h is = is
-ends_so (ends.Denied stag to why) h is = is
-ends_so (ends.NoBuffer at) h is = is
-ends_so (ends.Terminated reason) h is = is
 
 -- ---- Refusals
 

@@ -1,5 +1,5 @@
 -- A call is given up after output was written: what is written leaves why the link has ended, and that no message brought an outcome of the call.
-use Rattle.std.proofs.Common.{◌≡◌, ℕ, Bool, true, false, eqb, ◌&&◌, ◌⊎◌, ⊎_elim, inl, inr, List, [], ◌∷◌, ◌++◌, length, Option, None, Some, refl, sym, ap, subst, ◌∙◌, append-nil, append_assoc}
+use Rattle.std.proofs.Common.{◌≡◌, ℕ, Bool, true, false, eqb, ◌&&◌, List, [], ◌∷◌, ◌++◌, length, Option, None, Some, refl, sym, ap, subst, ◌∙◌, append-nil, append_assoc}
 use Rattle.std.specs.Prelude.{Contains}
 use Rattle.nr_link.specs.declared.end.End.{End}
 use Rattle.nr_link.specs.declared.end.End.TheVariants as ends
@@ -21,7 +21,7 @@ use Rattle.nr_shared.specs.declared.entry.Entry.{Entry}
 use Rattle.nr_shared.specs.declared.entry.Entry.TheVariants as entries
 use Rattle.nr_shared.specs.declared.entry.InitialState.{InitialState}
 use Rattle.nr_shared.specs.Draining.{AreWrites}
-use Rattle.nr_shared.specs.Ending.{ClientEnded, EndsSo, LinkEnded, LossEnds}
+use Rattle.nr_shared.specs.Ending.{ClientEnded, HasEnded, LinkEnded, LossEnds}
 use Rattle.nr_shared.specs.HandedBack.{IsUnanswered}
 use Rattle.nr_shared.specs.Histories.{PresentLink, has_write_failed, initial_of, is_lost_by, present, present_after, present_from, stop_of, tries_in, tries_of}
 use Rattle.nr_shared.specs.LinkRuns.{LinkRun, OpenedLink, call_link, last_carrier, links_of}
@@ -101,7 +101,7 @@ module _ (opened : LinkParameters) (numbers : ℕ → ℕ) (before : List Mark) 
 -- why no more is fed stays, and how many links were left; a write that failed has failed still
 record WroteOver (p q : PresentLink) : Type 0 where
   stopped : q.stopped ≡ p.stopped
-  left : q.left ≡ p.left
+  left : length q.left ≡ length p.left
   failed : p.write_failed ≡ true → q.write_failed ≡ true
 
 over_both : (p q s : PresentLink) → WroteOver p q → WroteOver q s → WroteOver p s
@@ -147,8 +147,8 @@ module _ (h es : List Entry) (c : InitialState) (is : initial_of h ≡ Some c) (
       let w = run_keeps opened numbers before 0 h es are in
       subst (λ (e : OpenedLink). (client e.opened e.link k.run).ended ≡ Some end) (sym w.at) ((w.keeps l.at.opened l.at.link).ended ∙ ended opened numbers before (fits_before h es c opened numbers before is fits))
 
-  end_still : (end : End) → EndsSo end h → EndsSo end (h ++ es)
-  end_still ends.Memory ended = ⊎_elim (λ (e : stop_of h ≡ Some causes.Memory). inl (stop_still ∙ e)) (λ (e : stop_of h ≡ Some causes.NotReopened). inr (stop_still ∙ e)) ended
+  end_still : (end : End) → HasEnded end h → HasEnded end (h ++ es)
+  end_still ends.Memory ended = stop_still ∙ ended
   end_still (ends.Bad at reason) ended = client_still (ends.Bad at reason) ended
   end_still (ends.Denied stag to why) ended = client_still (ends.Denied stag to why) ended
   end_still (ends.NoBuffer at) ended = client_still (ends.NoBuffer at) ended
@@ -179,11 +179,11 @@ module _ (h es : List Entry) (c : InitialState) (is : initial_of h ≡ Some c) (
   loss_still (Some tries) calls.LinkWrite ended = absurd ended
   loss_still (Some tries) calls.LinkRead ended = absurd ended
   loss_still (Some tries) calls.Closed ended = absurd ended
-  loss_still (Some tries) calls.DialFault ended = absurd ended
-  loss_still (Some tries) (calls.Spent left need) ended = absurd ended
+  loss_still (Some tries) calls.DialFault ended = stop_still ∙ ended
+  loss_still (Some tries) (calls.Spent left need) ended = stop_still ∙ ended
   loss_still (Some tries) (calls.TooLarge need room) ended = absurd ended
   loss_still (Some tries) (calls.Budget read) ended = absurd ended
-  loss_still (Some tries) calls.Memory ended = absurd ended
+  loss_still (Some tries) calls.Memory ended = stop_still ∙ ended
 
   loss_more : (end : CallEnd) → LossEnds (tries_of h) end h → LossEnds (tries_of (h ++ es)) end (h ++ es)
   loss_more end ended = subst (λ (o : Option ℕ). LossEnds o end (h ++ es)) (sym tries_still) (loss_still (tries_of h) end ended)
@@ -194,11 +194,11 @@ still_ended calls.LinkWrite h es c is are ended = loss_more h es c is are calls.
 still_ended calls.LinkRead h es c is are ended = loss_more h es c is are calls.LinkRead ended
 still_ended calls.Closed h es c is are ended = loss_more h es c is are calls.Closed ended
 still_ended (calls.Tries n) h es c is are ended = loss_more h es c is are (calls.Tries n) ended
-still_ended calls.DialFault h es c is are ended = stop_still h es c is are ∙ ended
+still_ended calls.DialFault h es c is are ended = loss_more h es c is are calls.DialFault ended
 still_ended (calls.Budget read) h es c is are ended = (ended.0, stop_still h es c is are ∙ ended.1)
-still_ended (calls.Spent left need) h es c is are ended = stop_still h es c is are ∙ ended
-still_ended (calls.TooLarge need room) h es c is are ended = absurd ended
-still_ended calls.Memory h es c is are ended = absurd ended
+still_ended (calls.Spent left need) h es c is are ended = loss_more h es c is are (calls.Spent left need) ended
+still_ended (calls.TooLarge need room) h es c is are ended = loss_more h es c is are (calls.TooLarge need room) ended
+still_ended calls.Memory h es c is are ended = loss_more h es c is are calls.Memory ended
 
 pub still_unanswered : (xid : ℕ) (h es : List Entry) (c : InitialState) → initial_of h ≡ Some c → AreWrites es → IsUnanswered xid h → IsUnanswered xid (h ++ es)
 still_unanswered xid h es c is are u = record {
