@@ -64,7 +64,7 @@ links_same opened numbers before n h e none quiet = let l = links_of opened numb
 
 -- ---- How many links were left
 
-left_by : (n : ℕ) (numbers : ℕ → ℕ) (l : LinkRun) (p : PresentLink) (h : List Entry) → length l.left ≡ p.left → length (links_after n numbers l h).left ≡ (present_from p h).left
+left_by : (n : ℕ) (numbers : ℕ → ℕ) (l : LinkRun) (p : PresentLink) (h : List Entry) → length l.left ≡ length p.left → length (links_after n numbers l h).left ≡ length (present_from p h).left
 left_by n numbers l p [] same = same
 left_by n numbers l p (entries.Initial initial ∷ es) same = left_by n numbers (with_marks l []) (present_after p (entries.Initial initial)) es same
 left_by n numbers l p (entries.Rejoin sink previous ∷ es) same =

@@ -46,7 +46,7 @@ law_others opened link run (m ∷ ms) none law = subst (KeepsLinkLaw opened link
 left_stay : (l : LinkRun) (h h' : RequesterSide) (ms : List Mark) (left : List OpenedLink) → KeepsEarlierBeside h h' → AllByRecursion (λ (e : OpenedLink). HasNoMark e.link ms) left → AllByRecursion (IsLeft l h) left → AllByRecursion (IsLeft (with_marks l ms) h') left
 left_stay l h h' ms [] stays none all = tt
 left_stay l h h' ms (e ∷ left) stays none all = (
-  record { keeps = stays (is_of l e.link) e.opened e.link l.run ms all.0.keeps none.0; law = law_others e.opened e.link l.run ms none.0 all.0.law },
+  record { keeps = stays (is_of l e.link) e.opened e.link l.run ms all.0.keeps none.0; opens = all.0.opens; law = law_others e.opened e.link l.run ms none.0 all.0.law },
   left_stay l h h' ms left stays none.1 all.1,
 )
 
@@ -105,10 +105,12 @@ module _ (l : LinkRun) (h h' : RequesterSide) (xid : ℕ) (mark : ℕ → Mark) 
     by : (b : Bool) → is_of l e.link xid ≡ b → IsLeft (with_marks l (own_mark ∷ [])) h' e
     by true own = record {
       keeps = subst (λ (m : Mark). KeepsEarlier (is_of l e.link) e.opened e.link h' (l.run ++ m ∷ [])) (sym (at_link e.link own)) (c.goes (is_of l e.link) e.opened e.link l.run left.keeps own);
+      opens = left.opens;
       law = subst (λ (m : Mark). KeepsLinkLaw e.opened e.link (l.run ++ m ∷ [])) (sym (at_link e.link own)) (c.law_left (is_of l e.link) e.opened e.link l.run left.keeps own left.law);
     }
     by false other = record {
       keeps = c.stays (is_of l e.link) e.opened e.link l.run own_mark left.keeps other (other_link e.link c other);
+      opens = left.opens;
       law = law_other e.opened e.link l.run own_mark (other_link e.link c other) left.law;
     }
 

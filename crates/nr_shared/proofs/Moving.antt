@@ -168,7 +168,7 @@ module _ {O C : Type 0} (link : O → ℕ) (taken : O → Option (List ℕ)) (fa
         let represents_l = follows_wrote c h st.represents in
         let stopped_l : m'.stopped ≡ stop_of (h ++ e ∷ []) = d.stopped ∙ (st.stopped ∙ sym (ap (λ (p : PresentLink). p.stopped) here)) in
         let failed_l : has_write_failed (h ++ e ∷ []) ≡ has_write_failed h = ap (λ (p : PresentLink). p.write_failed) here in
-        let left_l : rejoins (h ++ e ∷ []) ≡ rejoins h = ap (λ (p : PresentLink). p.left) here in
+        let left_l : rejoins (h ++ e ∷ []) ≡ rejoins h = ap (λ (p : PresentLink). length p.left) here in
         record {
           initial = c;
           is_initial = initial_l;
@@ -210,7 +210,7 @@ module _ {O C : Type 0} (link : O → ℕ) (taken : O → Option (List ℕ)) (fa
         let here : present l ≡ present_after (present h) e = present_end h e in
         let there : present (l ++ f ∷ []) ≡ present_after (present_after (present h) e) f = present_end l f ∙ ap (λ (p : PresentLink). present_after p f) here in
         let initial_l = initial_end h e c st.is_initial in
-        let left_l : rejoins (l ++ f ∷ []) ≡ rejoins h = ap (λ (p : PresentLink). p.left) there in
+        let left_l : rejoins (l ++ f ∷ []) ≡ rejoins h = ap (λ (p : PresentLink). length p.left) there in
         record {
           initial = c;
           is_initial = initial_end l f c initial_l;

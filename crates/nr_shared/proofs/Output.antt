@@ -229,7 +229,7 @@ carrier_has P at (e ∷ left) xid one all = by (carries at.opened xid) (carrier_
     by false rest = rest
 
 -- such is so of the link of a call, if it is of each link to which the call belongs
-of_call : (l : LinkRun) (xid : ℕ) (P : OpenedLink → Type 0) → (is_of l l.at.link xid ≡ true → P l.at) → AllByRecursion (λ (e : OpenedLink). is_of l e.link xid ≡ true → P e) l.left → P (call_link l xid)
+pub of_call : (l : LinkRun) (xid : ℕ) (P : OpenedLink → Type 0) → (is_of l l.at.link xid ≡ true → P l.at) → AllByRecursion (λ (e : OpenedLink). is_of l e.link xid ≡ true → P e) l.left → P (call_link l xid)
 of_call l xid P one all = carrier_has (λ (e : OpenedLink). is_of l e.link xid ≡ true → P e) l.at l.left xid one all (eq-eqb (call_link l xid).link (call_link l xid).link refl)
 
 all_placed : (l : LinkRun) (r : RequesterSide) (xid : ℕ) (a : AnsweredCall) (left : List OpenedLink) → found_answer xid r.state ≡ Some a → AllByRecursion (IsLeft l r) left → AllByRecursion (λ (e : OpenedLink). is_of l e.link xid ≡ true → Placed l xid a e) left

@@ -2,7 +2,7 @@
 use Rattle.std.specs.Prelude.{◌≡◌, ⊤, ◌⊎◌, ℕ, List, [], ◌∷◌, ◌++◌, Option, None, Some}
 use Rattle.nr_outside.specs.Faults.{Rises}
 use Rattle.nr_links.specs.Asked.{Asks}
-use Rattle.nr_links.specs.Links.{EndsLink, HasOpenLink, IsNewLink, LinkLog, MakesLink, ended_link}
+use Rattle.nr_links.specs.Links.{EndsLink, HasOpenLink, IsNewLink, IsTold, LinkLog, MakesLink, ended_link}
 use Rattle.nr_turnstile.specs.declared.turnstile.Pass.{Pass}
 use Rattle.nr_turnstile.specs.Passes.{seen_by}
 use Rattle.nr_shared.specs.declared.entry.Entry.{Entry}
@@ -27,20 +27,20 @@ LinkHungUp source_link left given taken (Some source) (Some sink) ended ended' =
 LinkHungUp source_link left given taken source sink ended ended' = ended' ≡ ended
 
 -- What became of a dial. The next link was made: it is new, its halves have one number, the address was asked for, and the dialer's count is as it was. Or there is none, and the count rose.
-abbrev pub IsNext : {I O : Type 0} → (source_link : I → ℕ) → (given : I → Option (List ℕ)) → (source_faults : I → ℕ) → (sink_link : O → ℕ) → (taken : O → Option (List ℕ)) → (sink_faults : O → ℕ) → Option I → Option O
+abbrev pub IsNext : {I O : Type 0} → (source_link : I → ℕ) → (left given : I → Option (List ℕ)) → (source_faults : I → ℕ) → (sink_link : O → ℕ) → (taken : O → Option (List ℕ)) → (sink_faults : O → ℕ) → Option I → Option O
     → (addr : List ℕ) → (asked asked' : Option (List (List ℕ))) → (ended ended' : Option LinkLog) → (faults faults' : ℕ) → Type 0
-IsNext source_link given source_faults sink_link taken sink_faults (Some source) (Some sink) addr asked asked' ended ended' faults faults' =
+IsNext source_link left given source_faults sink_link taken sink_faults (Some source) (Some sink) addr asked asked' ended ended' faults faults' =
     (source_link source ≡ sink_link sink)
-    × (IsNewLink (given source) (taken sink) (source_faults source) (sink_faults sink) × (Asks asked asked' addr × (MakesLink ended ended' × (faults' ≡ faults))))
-IsNext source_link given source_faults sink_link taken sink_faults None None addr asked asked' ended ended' faults faults' = (asked' ≡ asked) × ((ended' ≡ ended) × Rises faults faults')
-IsNext source_link given source_faults sink_link taken sink_faults source sink addr asked asked' ended ended' faults faults' = ⊥
+    × (IsNewLink (given source) (taken sink) (source_faults source) (sink_faults sink) × (Asks asked asked' addr × (MakesLink ended ended' × (IsTold ended' (given source) (left source) (taken sink) × (faults' ≡ faults)))))
+IsNext source_link left given source_faults sink_link taken sink_faults None None addr asked asked' ended ended' faults faults' = (asked' ≡ asked) × ((ended' ≡ ended) × Rises faults faults')
+IsNext source_link left given source_faults sink_link taken sink_faults source sink addr asked asked' ended ended' faults faults' = ⊥
 
 -- The link that there is was hung up, and then this address was dialled once.
 pub record DialsNext {I O D : Type 0} (source_link : I → ℕ) (left given : I → Option (List ℕ)) (source_faults : I → ℕ) (sink_link : O → ℕ) (taken : O → Option (List ℕ)) (sink_faults : O → ℕ) (asked : D → Option (List (List ℕ))) (ended : D → Option LinkLog) (faults : D → ℕ)
     (source source' : Option I) (sink sink' : Option O) (dialer dialer' : D) (addr : List ℕ) : Type 0 where
   pub log : Option LinkLog
   pub hung_up : LinkHungUp source_link left given taken source sink (ended dialer) log
-  pub next : IsNext source_link given source_faults sink_link taken sink_faults source' sink' addr (asked dialer) (asked dialer') log (ended dialer') (faults dialer) (faults dialer')
+  pub next : IsNext source_link left given source_faults sink_link taken sink_faults source' sink' addr (asked dialer) (asked dialer') log (ended dialer') (faults dialer) (faults dialer')
 
 -- ---- A redial
 

@@ -36,31 +36,23 @@ IsRefused (refusals.Ended end) call form history = HasEnded end history
 IsRefused refusals.Memory call form history = ⊤
 IsRefused why call form history = ClientRefuses why call form history
 
--- How a lost link ends, if it may be dialled again so often: never; or, after it was, it is lost once more.
+-- How a link ends without an End. If it is never dialled again: a read or a write failed, or the server ended its stream. If it may be dialled again so often:
+-- it was, and is lost once more; a dial failed; or the requester couldn't be reopened, for want of STags or of memory.
 abbrev pub LossEnds : Option ℕ → CallEnd → List Entry → Type 0
 LossEnds None calls.LinkWrite history = has_write_failed history ≡ true
 LossEnds None calls.LinkRead history = stop_of history ≡ Some causes.LinkRead
 LossEnds None calls.Closed history = stop_of history ≡ Some causes.Closed
 LossEnds (Some tries) (calls.Tries n) history = (n ≡ tries) × ((rejoins history ≡ tries) × (is_lost history ≡ true))
+LossEnds (Some tries) calls.DialFault history = stop_of history ≡ Some causes.DialFault
+LossEnds (Some tries) (calls.Spent left need) history = stop_of history ≡ Some (causes.Spent left need)
+LossEnds (Some tries) calls.Memory history = stop_of history ≡ Some causes.NotReopened
 LossEnds tries end history = ⊥
 
--- The requester has ended so; or, for an End of memory, that ran out for a reopening.
-abbrev pub EndsSo : End → List Entry → Type 0
-EndsSo ends.Memory history = (stop_of history ≡ Some causes.Memory) ⊎ (stop_of history ≡ Some causes.NotReopened)
-EndsSo end history = ClientEnded end history
-
--- Why no answer comes over the link any more: the requester has ended; the link is lost, and isn't dialled again; a dial failed; the maximum was read; or
--- too few STags are left for the calls that would be sent again.
+-- Why no answer comes over the link any more: the requester has ended, the maximum was read, or the link is lost.
 abbrev pub LinkEnded : CallEnd → List Entry → Type 0
-LinkEnded (calls.Ended end) history = EndsSo end history
-LinkEnded calls.LinkWrite history = LossEnds (tries_of history) calls.LinkWrite history
-LinkEnded calls.LinkRead history = LossEnds (tries_of history) calls.LinkRead history
-LinkEnded calls.Closed history = LossEnds (tries_of history) calls.Closed history
-LinkEnded (calls.Tries n) history = LossEnds (tries_of history) (calls.Tries n) history
-LinkEnded calls.DialFault history = stop_of history ≡ Some causes.DialFault
+LinkEnded (calls.Ended end) history = HasEnded end history
 LinkEnded (calls.Budget read) history = (read ≡ read_max) × (stop_of history ≡ Some causes.Budget)
-LinkEnded (calls.Spent left need) history = stop_of history ≡ Some (causes.Spent left need)
-LinkEnded end history = ⊥
+LinkEnded end history = LossEnds (tries_of history) end history
 
 -- why a call wasn't submitted
 abbrev pub IsCause : CallEnd → Call → Form → List Entry → Type 0

@@ -1,10 +1,10 @@
 -- The source of a link, and the pass that feeds what it gives.
-use Rattle.std.specs.Prelude.{◌≡◌, ◌≢◌, ⊤, ℕ, zero, suc, ◌+◌, ◌≤◌, true, false, List, [], ◌∷◌, ◌++◌, length, Option, None, Some, IfSome, is_some}
-use Rattle.std.specs.Io.KnownBytes.{IsAtEnd}
+use Rattle.std.specs.Prelude.{◌≡◌, ◌≢◌, ⊤, ◌⊎◌, ℕ, ◌+◌, ◌≤◌, Bool, true, false, List, [], ◌∷◌, length, Option, None, Some, IfSome, is_some}
+use Rattle.std.specs.Io.KnownBytes.{Appends, IsAtEnd}
 use Rattle.nr_outside.specs.Content.{HandsOut}
 use Rattle.nr_outside.specs.Faults.{Rises}
 use Rattle.nr_links.specs.Limits.{piece_max, read_max}
-use Rattle.nr_links.specs.Links.{EndedLink, HasOpenLink, LinkLog}
+use Rattle.nr_links.specs.Links.{EndsLink, HasOpenLink, LinkLog, MakesLink, ended_link}
 use Rattle.nr_turnstile.specs.Rule.{Lies}
 use Rattle.nr_turnstile.specs.Passes.{IsOutside, home_of, seen_by, mine_of}
 use Rattle.nr_shared.specs.declared.entry.InitialSink.{InitialSink}
@@ -13,7 +13,7 @@ use Rattle.nr_shared.specs.declared.entry.Stop.TheVariants as causes
 use Rattle.nr_shared.specs.declared.source_reader.SourceReader.{SourceReader}
 use Rattle.nr_shared.specs.declared.source_reader.InitialSource.{InitialSource}
 use Rattle.nr_shared.specs.Callers.{IsFeeding}
-use Rattle.nr_shared.specs.Histories.{PresentLink, bytes_fed, present, tries_of}
+use Rattle.nr_shared.specs.Histories.{PastLink, PresentLink, bytes_fed, present, tries_of}
 
 abbrev pub closes_none : {I O C D : Type 0} → InitialSource I O C D → Option ℕ
 closes_none b = None
@@ -35,13 +35,14 @@ pub record InitialGiving : Type 0 where
   pub faults : ℕ
 
 -- as it was shared, if no link was left; else new
-abbrev pub IsFirstGiving : (shared : InitialGiving) → (left : ℕ) → InitialGiving → Type 0
-IsFirstGiving shared zero first = first ≡ shared
-IsFirstGiving shared (suc n) first = (first.faults ≡ 0) × IfSome first.given (λ bytes. bytes ≡ [])
+abbrev pub IsFirstGiving : (shared : InitialGiving) → (left : List PastLink) → InitialGiving → Type 0
+IsFirstGiving shared [] first = first ≡ shared
+IsFirstGiving shared (link ∷ left) first = (first.faults ≡ 0) × IfSome first.given (λ bytes. bytes ≡ [])
 
--- What was fed over its link is what the source gave. Its fault count is as it was, unless a read failed.
-pub record KeepsSource {I : Type 0} (link : I → ℕ) (left given : I → Option (List ℕ)) (faults : I → ℕ) (shared : InitialGiving) (source : I) (sink : InitialSink) (read : ℕ) (present : PresentLink) : Type 0 where
-  pub number : link source ≡ sink.link
+-- What was fed over its link is what the source gave. Its fault count is as it was, unless a read failed. If the link may be dialled again, both halves have one
+-- number.
+pub record KeepsSource {I : Type 0} (link : I → ℕ) (left given : I → Option (List ℕ)) (faults : I → ℕ) (numbered : Bool) (shared : InitialGiving) (source : I) (sink : InitialSink) (read : ℕ) (present : PresentLink) : Type 0 where
+  pub number : numbered ≡ true → link source ≡ sink.link
   pub first : InitialGiving
   pub is_first : IsFirstGiving shared present.left first
   pub gave : HandsOut first.left first.given (left source) (given source) present.fed
@@ -51,26 +52,40 @@ pub record KeepsSource {I : Type 0} (link : I → ℕ) (left given : I → Optio
   pub stop : StopHolds present.stopped first.faults (faults source) (left source) read
 
 -- there is none if the last dial failed
-abbrev pub KeepsSourceIf : {I : Type 0} → (link : I → ℕ) → (left given : I → Option (List ℕ)) → (faults : I → ℕ) → (shared : InitialGiving) → Option I → Option InitialSink → (read : ℕ) → PresentLink → Type 0
-KeepsSourceIf link left given faults shared (Some source) (Some sink) read present = KeepsSource link left given faults shared source sink read present
-KeepsSourceIf link left given faults shared None None read present = present.stopped ≡ Some causes.DialFault
-KeepsSourceIf link left given faults shared source sink read present = ⊥
+abbrev pub KeepsSourceIf : {I : Type 0} → (link : I → ℕ) → (left given : I → Option (List ℕ)) → (faults : I → ℕ) → (numbered : Bool) → (shared : InitialGiving) → Option I → Option InitialSink → (read : ℕ) → PresentLink → Type 0
+KeepsSourceIf link left given faults numbered shared (Some source) (Some sink) read present = KeepsSource link left given faults numbered shared source sink read present
+KeepsSourceIf link left given faults numbered shared None None read present = present.stopped ≡ Some causes.DialFault
+KeepsSourceIf link left given faults numbered shared source sink read present = ⊥
 
-abbrev pub KeepsSourceOf : {I : Type 0} → (link : I → ℕ) → (left given : I → Option (List ℕ)) → (faults : I → ℕ) → (shared : InitialGiving) → Option I → (read : ℕ) → PresentLink → Type 0
-KeepsSourceOf link left given faults shared source read present = KeepsSourceIf link left given faults shared source present.sink read present
+abbrev pub KeepsSourceOf : {I : Type 0} → (link : I → ℕ) → (left given : I → Option (List ℕ)) → (faults : I → ℕ) → (numbered : Bool) → (shared : InitialGiving) → Option I → (read : ℕ) → PresentLink → Type 0
+KeepsSourceOf link left given faults numbered shared source read present = KeepsSourceIf link left given faults numbered shared source present.sink read present
 
 -- ---- The dialer
 
--- so many links more were hung up, if the log is known
-abbrev pub HungUp : Option LinkLog → Option LinkLog → ℕ → Type 0
-HungUp (Some before) (Some after) n = (links : List EndedLink) × ((after.ended ≡ before.ended ++ links) × (length links ≡ n))
-HungUp before after n = ⊤
+-- A link that was left was hung up: its sink had taken what the history says was written over it, and its source had given what was fed.
+pub record LinkEndedBy (shared : InitialGiving) (past : List PastLink) (p : PastLink) (sink : InitialSink) (before after : Option LinkLog) : Type 0 where
+  pub given : Option (List ℕ)
+  pub left : Option (List ℕ)
+  pub taken : Option (List ℕ)
+  pub ends : EndsLink before after (ended_link sink.link given left taken)
+  pub took : Appends sink.taken taken p.written
+  pub first : InitialGiving
+  pub is_first : IsFirstGiving shared past first
+  pub gave : HandsOut first.left first.given left given p.fed
 
--- Each link that was left was hung up, if the dialer always tells its log, and one more was made than hung up while there is a link. The dialer's count rose
--- if and only if the last dial failed.
-pub record KeepsDialer {D : Type 0} (ended : D → Option LinkLog) (faults : D → ℕ) (shared dialer : D) (present : PresentLink) : Type 0 where
+abbrev pub LinkEndedIf : InitialGiving → List PastLink → PastLink → Option InitialSink → (before after : Option LinkLog) → Type 0
+LinkEndedIf shared past p (Some sink) before after = LinkEndedBy shared past p sink before after
+LinkEndedIf shared past p None before after = after ≡ before
+
+-- The links that were left, the last one first, were hung up one after the other, and after each of them a link was made, unless the dial failed.
+abbrev pub HungUp : InitialGiving → List PastLink → (before after : Option LinkLog) → Type 0
+HungUp shared [] before after = after ≡ before
+HungUp shared (p ∷ past) before after = (found : Option LinkLog) × (ended : Option LinkLog) × HungUp shared past before found × LinkEndedIf shared past p p.sink found ended × (MakesLink ended after ⊎ (after ≡ ended))
+
+-- Each link that was left was hung up, and fewer were hung up than made while there is a link. The dialer's count rose if and only if the last dial failed.
+pub record KeepsDialer {D : Type 0} (ended : D → Option LinkLog) (faults : D → ℕ) (giving : InitialGiving) (shared dialer : D) (present : PresentLink) : Type 0 where
   pub open_link : is_some present.sink ≡ true → HasOpenLink (ended shared) → HasOpenLink (ended dialer)
-  pub hung_up : ((d : D) → is_some (ended d) ≡ true) → HungUp (ended shared) (ended dialer) present.left
+  pub hung_up : HungUp giving present.left (ended shared) (ended dialer)
   pub counted : present.stopped ≢ Some causes.DialFault → faults dialer ≡ faults shared
   pub failed : present.stopped ≡ Some causes.DialFault → Rises (faults shared) (faults dialer)
 
@@ -85,8 +100,8 @@ pub record FeedsFor {I O C D : Type 0} (link : I → ℕ) (left given : I → Op
   pub outside : IsOutside s.pass
   pub lies : Lies (seen_by s.pass) (mine_of s.pass)
   pub feeding : IsFeeding s.pass
-  pub source : KeepsSourceOf link left given faults (shared_giving left given faults b.source.value) s.source s.read (present (seen_by s.pass))
-  pub dialer : KeepsDialer ended dialer_faults b.dialer.value s.dialer (present (seen_by s.pass))
+  pub source : KeepsSourceOf link left given faults (is_some (tries_of (seen_by s.pass))) (shared_giving left given faults b.source.value) s.source s.read (present (seen_by s.pass))
+  pub dialer : KeepsDialer ended dialer_faults (shared_giving left given faults b.source.value) b.dialer.value s.dialer (present (seen_by s.pass))
   pub open_link : is_some (tries_of (seen_by s.pass)) ≡ true → HasOpenLink (ended b.dialer.value)
   pub read : s.read ≡ b.read + length (bytes_fed (seen_by s.pass))
   pub within : s.read ≤ read_max

@@ -1,5 +1,5 @@
 -- The history of a shared requester: which entries close which, and what it says of the link at hand.
-use Rattle.std.specs.Prelude.{◌≡◌, ⊤, ℕ, ◌+◌, Bool, true, false, ◌==◌, ◌||◌, is_some, if◌then◌else◌, List, [], ◌∷◌, ◌++◌, Option, None, Some}
+use Rattle.std.specs.Prelude.{◌≡◌, ⊤, ℕ, Bool, true, false, ◌==◌, ◌||◌, is_some, if◌then◌else◌, List, [], ◌∷◌, ◌++◌, length, Option, None, Some}
 use Rattle.std.specs.List.{flat_map}
 use mathlib.Core.Option.{some}
 use lib.ListN.{get_elem?}
@@ -81,8 +81,14 @@ bytes_fed history = flat_map fed_by history
 
 -- ---- The link at hand
 
+-- a link that was left: its sink when its bytes began to move, the bytes that the sink took, and those that were fed over it
+pub record PastLink : Type 0 where
+  pub sink : Option InitialSink
+  pub written : List ℕ
+  pub fed : List ℕ
+
 -- What the entries so far tell of it: its sink when its bytes began to move, or none if its dial failed; the bytes that its sink took, and those that were
--- fed over it; whether a write failed, and whether a read did; why no more is fed; and how many links were left before it.
+-- fed over it; whether a write failed, and whether a read did; why no more is fed; and the links that were left before it, the last one first.
 pub record PresentLink : Type 0 where
   pub sink : Option InitialSink
   pub written : List ℕ
@@ -90,7 +96,7 @@ pub record PresentLink : Type 0 where
   pub write_failed : Bool
   pub read_failed : Bool
   pub stopped : Option Stop
-  pub left : ℕ
+  pub left : List PastLink
 
 abbrev pub stopped_by_dial : Option InitialSink → Option Stop
 stopped_by_dial None = Some causes.DialFault
@@ -107,7 +113,7 @@ present_after l (entries.Fed bytes previous) = record l { fed = l.fed ++ bytes }
 present_after l entries.WriteFailed = record l { write_failed = true }
 present_after l (entries.Stopped cause previous) = record l { read_failed = l.read_failed || is_read_fault cause; stopped = Some cause }
 present_after l (entries.OutOfMemory piece previous) = record l { fed = l.fed ++ piece; stopped = Some causes.Memory }
-present_after l (entries.Rejoin sink previous) = record { sink = sink; written = []; fed = []; write_failed = false; read_failed = false; stopped = stopped_by_dial sink; left = l.left + 1 }
+present_after l (entries.Rejoin sink previous) = record { sink = sink; written = []; fed = []; write_failed = false; read_failed = false; stopped = stopped_by_dial sink; left = (record { sink = l.sink; written = l.written; fed = l.fed }) ∷ l.left }
 present_after l entry = l
 
 abbrev pub present_from : PresentLink → List Entry → PresentLink
@@ -115,7 +121,7 @@ present_from l [] = l
 present_from l (e ∷ es) = present_from (present_after l e) es
 
 abbrev pub no_link : PresentLink
-no_link = record { sink = None; written = []; fed = []; write_failed = false; read_failed = false; stopped = None; left = 0 }
+no_link = record { sink = None; written = []; fed = []; write_failed = false; read_failed = false; stopped = None; left = [] }
 
 abbrev pub present : List Entry → PresentLink
 present history = present_from no_link history
@@ -132,7 +138,7 @@ link_fed history = (present history).fed
 
 -- how often a lost link was left
 abbrev pub rejoins : List Entry → ℕ
-rejoins history = (present history).left
+rejoins history = length (present history).left
 
 -- a write failed over the link at hand
 abbrev pub has_write_failed : List Entry → Bool

@@ -18,6 +18,7 @@ pub record KeepsLinkLaw (opened : LinkParameters) (link : ℕ) (run : List Mark)
 -- The requester keeps the answers of a link that was left, whose marks keep the law.
 pub record IsLeft (l : LinkRun) (h : RequesterSide) (e : OpenedLink) : Type 0 where
   pub keeps : KeepsEarlier (is_of l e.link) e.opened e.link h l.run
+  pub opens : IsOpened e.opened
   pub law : KeepsLinkLaw e.opened e.link l.run
 
 -- The requester stands for the marks of the link at hand, and keeps the answers of those that were left. `earlier` is how many marks it had made when the

@@ -56,9 +56,10 @@ abbrev pub IsTryLeft : Option ℕ → (left : ℕ) → Type 0
 IsTryLeft None left = ⊥
 IsTryLeft (Some tries) left = left < tries
 
--- A lost link is left only while it may be dialled again, and a call is outstanding.
+-- A lost link is left only while it may be dialled again, its client hasn't ended, and a call is outstanding.
 pub record MayRejoin (before : List Entry) : Type 0 where
   pub lost : is_lost before ≡ true
+  pub live : OnLink 0 before (λ opened link run. (client opened link run).ended ≡ None)
   pub try_left : IsTryLeft (tries_of before) (rejoins before)
   pub outstanding : IsCallOutstanding before
 
@@ -75,6 +76,8 @@ SpendsStags left need before = (left < need) × OnLink 0 before (λ opened link 
 abbrev pub MayStop : Stop → List Entry → Type 0
 MayStop (causes.Spent left need) before = MayRejoin before × SpendsStags left need before
 MayStop causes.NotReopened before = MayRejoin before
+MayStop causes.Memory before = ⊥
+MayStop causes.DialFault before = ⊥
 MayStop cause before = MayFeed before
 
 -- This entry may follow these: no bytes are written after a write failed, or a dial, and none are fed but as said.
