@@ -1,6 +1,7 @@
 -- The pass that feeds, with the source and the dialer: after a turn, a read, and a dial.
 use Rattle.std.proofs.Common.{◌≡◌, ◌≢◌, ℕ, zero, suc, ◌+◌, ◌≤◌, ◌||◌, arith, Bool, true, false, is_some, List, [], ◌∷◌, ◌++◌, length, length-append, append-nil, Option, Some, None, ◌⊎◌, inl, inr, refl, sym, ap, subst, ◌∙◌}
 use Rattle.std.specs.Prelude.{IfSome}
+use Rattle.std.proofs.lemmas.Grind.{flat_map-append}
 use mathlib.Core.Option.{some-injective}
 use lib.ListN.{get_elem?}
 use Rattle.nr_outside.specs.Content.{HandsOut}
@@ -21,12 +22,13 @@ use Rattle.nr_shared.specs.declared.source_reader.InitialSource.{InitialSource}
 use Rattle.nr_shared.specs.declared.source_reader.SourceReader.{SourceReader}
 use Rattle.nr_shared.specs.declared.requester_with_sink.RequesterWithSink.{RequesterWithSink}
 use Rattle.nr_shared.specs.Callers.{IsFeeding}
-use Rattle.nr_shared.specs.Dialing.{DialsNext, HasLink, IsNext, LinkHungUp}
+use Rattle.nr_shared.specs.Dialing.{CannotReopen, DialsNext, HasLink, IsNext, LinkHungUp}
 use Rattle.nr_shared.specs.Draining.{fed_entry, initial_sink}
 use Rattle.nr_shared.specs.Feeding.{Feeds, FeedsFor, HungUp, InitialGiving, KeepsDialer, KeepsSource, KeepsSourceIf, KeepsSourceOf, LinkEndedIf, StopHolds, shared_giving}
-use Rattle.nr_shared.specs.Histories.{PastLink, PresentLink, bytes_fed, initial_of, is_lost_by, is_read_fault, present, present_after, stop_of, tries_in, tries_of}
+use Rattle.nr_shared.specs.Histories.{PastLink, PresentLink, bytes_fed, fed_by, initial_of, is_lost, is_lost_by, is_read_fault, present, present_after, stop_of, tries_in, tries_of}
 use Rattle.nr_shared.specs.Standing.{KeepsSinkIf, KeepsSinkOf}
 use Rattle.nr_shared.specs.private.Reading.{IsReadEnd, read_part}
+use Rattle.nr_shared.proofs.Histories.{present_end}
 use Rattle.nr_shared.proofs.Moving.{rises_from}
 
 pub lies_same : {O C : Type 0} (r s : Pass (RequesterWithSink O C) Entry) → seen_by s ≡ seen_by r → mine_of s ≡ mine_of r → Lies (seen_by r) (mine_of r) → Lies (seen_by s) (mine_of s)
@@ -317,3 +319,130 @@ module _ {I O C D : Type 0} (link : I → ℕ) (left given : I → Option (List 
     dialer_piece : (shared : InitialGiving) (o : Bool) (l : PresentLink) → l.stopped ≡ None → KeepsDialer ended dialer_faults shared b.dialer.value s.dialer l → KeepsDialer ended dialer_faults shared b.dialer.value s.dialer (present_after l (fed_entry o piece 0))
     dialer_piece shared true l none k = dialer_stays ended dialer_faults shared b.dialer.value s.dialer l (present_after l (fed_entry true piece 0)) refl refl (λ e. none_some causes.DialFault (sym none ∙ e)) (none_dial true piece 0 l none) k
     dialer_piece shared false l none k = dialer_stays ended dialer_faults shared b.dialer.value s.dialer l (present_after l (fed_entry false piece 0)) refl refl (λ e. none_some causes.DialFault (sym none ∙ e)) (none_dial false piece 0 l none) k
+
+  -- no more is read
+  pub feeds_stopped : (b : InitialSource I O C D) (s t : SourceReader I O C D) (source source' : I) (cause : Stop) → FeedsFor link left given faults ended dialer_faults b s → PassOn s t → s.source ≡ Some source → t.source ≡ Some source' → t.dialer ≡ s.dialer
+      → HandsOut (left source) (given source) (left source') (given source') [] → link source' ≡ link source → faults source ≤ faults source' → (cause ≢ causes.LinkRead → faults source' ≡ faults source) → (present (seen_by s.pass)).stopped ≡ None → IsReadEnd cause
+      → StopHolds (Some cause) (faults source) (faults source') (left source') t.read → t.read ≡ s.read → length t.buf.items ≡ piece_max
+      → bytes_fed (seen_by t.pass) ≡ bytes_fed (seen_by s.pass) → read_part (present (seen_by t.pass)) ≡ present_after (read_part (present (seen_by s.pass))) (entries.Stopped cause 0) → FeedsFor link left given faults ended dialer_faults b t
+  feeds_stopped b s t source source' cause f on was is dialer gave number rises same goes ends holds read room bytes part = record {
+    home = on.home ∙ f.home;
+    outside = on.outside;
+    lies = on.lies;
+    feeding = on.feeding;
+    source = (let shared = shared_giving left given faults b.source.value in let x = is_some (tries_of (seen_by s.pass)) in let l = read_part (present (seen_by s.pass)) in
+        subst (λ (z : Bool). KeepsSourceOf link left given faults z shared t.source t.read (present (seen_by t.pass))) (ap (λ (o : Option ℕ). is_some o) (sym on.tries))
+        (subst (λ (o : Option I). KeepsSourceOf link left given faults x shared o t.read (present (seen_by t.pass))) (sym is)
+        (by_part link left given faults x shared (Some source') t.read (present (seen_by t.pass)) (present_after l (entries.Stopped cause 0)) part
+        (stop_of_part shared x l.sink l (subst (λ (n : ℕ). KeepsSourceIf link left given faults x shared (Some source) l.sink n l) (sym read) (subst (λ (o : Option I). KeepsSourceIf link left given faults x shared o l.sink s.read l) was (to_part link left given faults x shared s.source l.sink s.read (present (seen_by s.pass)) f.source)))))));
+    dialer = (let shared = shared_giving left given faults b.source.value in let l = present (seen_by s.pass) in
+        subst (λ (d : D). KeepsDialer ended dialer_faults shared b.dialer.value d (present (seen_by t.pass))) (sym dialer)
+        (dialer_of ended dialer_faults shared b.dialer.value s.dialer (present (seen_by t.pass)) (subst (λ (m : PresentLink). KeepsDialer ended dialer_faults shared b.dialer.value s.dialer m) (sym part)
+        (dialer_stays ended dialer_faults shared b.dialer.value s.dialer (read_part l) (present_after (read_part l) (entries.Stopped cause 0)) refl refl (λ e. none_some causes.DialFault (sym goes ∙ e)) (λ e. no_dial cause ends (some-injective cause causes.DialFault e))
+        (dialer_to ended dialer_faults shared b.dialer.value s.dialer l f.dialer)))));
+    open_link = λ some. f.open_link (ap (λ (o : Option ℕ). is_some o) (sym on.tries) ∙ some);
+    read = read ∙ (f.read ∙ ap (λ (l : List ℕ). b.read + length l) (sym bytes));
+    within = (let w = f.within in omega (arith, w, read));
+    room = room;
+  } where
+    no_dial : (c : Stop) → IsReadEnd c → c ≡ causes.DialFault → ⊥
+    no_dial c end e = subst IsReadEnd e end
+
+    stop_of_part : (shared : InitialGiving) (x : Bool) (i : Option InitialSink) (l : PresentLink) → KeepsSourceIf link left given faults x shared (Some source) i t.read l → KeepsSourceIf link left given faults x shared (Some source') i t.read (present_after l (entries.Stopped cause 0))
+    stop_of_part shared x i l k = stop_if link left given faults x shared source source' i t.read l cause gave number rises same holds k
+
+  -- the requester couldn't be reopened
+  pub feeds_stays : (b : InitialSource I O C D) (s t : SourceReader I O C D) (cause : Stop) (previous : ℕ) → FeedsFor link left given faults ended dialer_faults b s → PassOn s t → t.source ≡ s.source → t.dialer ≡ s.dialer → t.read ≡ s.read → t.buf ≡ s.buf
+      → is_lost (seen_by s.pass) ≡ true → CannotReopen cause → seen_by t.pass ≡ seen_by s.pass ++ entries.Stopped cause previous ∷ [] → FeedsFor link left given faults ended dialer_faults b t
+  feeds_stays b s t cause previous f on source dialer read buf lost cannot seen = record {
+    home = on.home ∙ f.home;
+    outside = on.outside;
+    lies = on.lies;
+    feeding = on.feeding;
+    source = (let shared = shared_giving left given faults b.source.value in let x = is_some (tries_of (seen_by s.pass)) in
+        subst (λ (z : Bool). KeepsSourceOf link left given faults z shared t.source t.read (present (seen_by t.pass))) (ap (λ (o : Option ℕ). is_some o) (sym on.tries))
+        (subst (λ (o : Option I). KeepsSourceOf link left given faults x shared o t.read (present (seen_by t.pass))) (sym source)
+        (subst (λ (n : ℕ). KeepsSourceOf link left given faults x shared s.source n (present (seen_by t.pass))) (sym read)
+        (subst (λ (m : PresentLink). KeepsSourceOf link left given faults x shared s.source s.read m) (sym now) (stays_if shared x s.source l.sink f.source)))));
+    dialer = (let shared = shared_giving left given faults b.source.value in
+        subst (λ (d : D). KeepsDialer ended dialer_faults shared b.dialer.value d (present (seen_by t.pass))) (sym dialer)
+        (subst (λ (m : PresentLink). KeepsDialer ended dialer_faults shared b.dialer.value s.dialer m) (sym now)
+        (dialer_stays ended dialer_faults shared b.dialer.value s.dialer l (present_after l (entries.Stopped cause previous)) refl refl (lost_some l.write_failed l.stopped lost) (λ e. no_dial cause cannot (some-injective cause causes.DialFault e)) f.dialer)));
+    open_link = λ some. f.open_link (ap (λ (o : Option ℕ). is_some o) (sym on.tries) ∙ some);
+    read = read ∙ (f.read ∙ ap (λ (bs : List ℕ). b.read + length bs) (sym bytes));
+    within = (let w = f.within in omega (arith, w, read));
+    room = ap (λ x. length x.items) buf ∙ f.room;
+  } where
+    l : PresentLink
+    l = present (seen_by s.pass)
+
+    now : present (seen_by t.pass) ≡ present_after l (entries.Stopped cause previous)
+    now = ap (λ (h : List Entry). present h) seen ∙ present_end (seen_by s.pass) (entries.Stopped cause previous)
+
+    bytes : bytes_fed (seen_by t.pass) ≡ bytes_fed (seen_by s.pass)
+    bytes = ap (λ (h : List Entry). bytes_fed h) seen ∙ (flat_map-append fed_by (seen_by s.pass) (entries.Stopped cause previous ∷ []) ∙ append-nil (bytes_fed (seen_by s.pass)))
+
+    no_dial : (c : Stop) → CannotReopen c → c ≡ causes.DialFault → ⊥
+    no_dial c end e = subst CannotReopen e end
+
+    no_read : (c : Stop) → CannotReopen c → c ≢ causes.LinkRead
+    no_read c end e = subst CannotReopen e end
+
+    holds : (c : Stop) (n m : ℕ) (o : Option (List ℕ)) (k : ℕ) → CannotReopen c → StopHolds (Some c) n m o k
+    holds (causes.Spent spent need) n m o k end = tt
+    holds causes.NotReopened n m o k end = tt
+    holds causes.LinkRead n m o k end = absurd end
+    holds causes.Closed n m o k end = absurd end
+    holds causes.Budget n m o k end = absurd end
+    holds causes.Memory n m o k end = absurd end
+    holds causes.DialFault n m o k end = absurd end
+
+    stop_same : (shared : InitialGiving) (x : Bool) (source : I) (i : Option InitialSink) → KeepsSourceIf link left given faults x shared (Some source) i s.read (present_after l (entries.Stopped cause 0)) → KeepsSourceIf link left given faults x shared (Some source) i s.read (present_after l (entries.Stopped cause previous))
+    stop_same shared x source i k = k
+
+    stays_if : (shared : InitialGiving) (x : Bool) (o : Option I) (i : Option InitialSink) → KeepsSourceIf link left given faults x shared o i s.read l → KeepsSourceIf link left given faults x shared o i s.read (present_after l (entries.Stopped cause previous))
+    stays_if shared x (Some source) i k = stop_same shared x source i (stop_if link left given faults x shared source source i s.read l cause (HandsOut_nil (left source) (given source)) refl (omega arith) (λ no. refl) (holds cause (faults source) (faults source) (left source) s.read cannot) k)
+    stays_if shared x None None k = absurd (lost_some l.write_failed l.stopped lost k)
+    stays_if shared x None (Some sink) k = absurd k
+
+  -- the value of the source's turn
+  pub feeds_value : (b : InitialSource I O C D) (s t : SourceReader I O C D) (h : List (InitialSource I O C D)) → h ≡ b ∷ [] → Feeds link left given faults ended dialer_faults s h → s ≡ t → FeedsFor link left given faults ended dialer_faults b t
+  feeds_value b s t h one (d, (two, f)) same = subst (FeedsFor link left given faults ended dialer_faults b) same (subst (λ (x : InitialSource I O C D). FeedsFor link left given faults ended dialer_faults x s) (only d b (sym two ∙ one)) f) where
+    only : (x y : InitialSource I O C D) → x ∷ [] ≡ y ∷ [] → x ≡ y
+    only x y is = some-injective x y (ap (λ (l : List (InitialSource I O C D)). get_elem? l 0) is)
+
+-- The lost link was left, and the next one was dialled.
+pub feeds_rejoined : {I O C D : Type 0} (link : I → ℕ) (left given : I → Option (List ℕ)) (faults : I → ℕ) (sink_link : O → ℕ) (taken : O → Option (List ℕ)) (sink_faults : O → ℕ) (asked : D → Option (List (List ℕ))) (ended : D → Option LinkLog) (dialer_faults : D → ℕ)
+    (b : InitialSource I O C D) (s t : SourceReader I O C D) (k k' : Option O) (addr : List ℕ) (previous : ℕ) → FeedsFor link left given faults ended dialer_faults b s → PassOn link left given faults ended dialer_faults s t → KeepsSinkOf sink_link taken sink_faults k (present (seen_by s.pass))
+    → is_some (tries_of (seen_by s.pass)) ≡ true → is_lost (seen_by s.pass) ≡ true → DialsNext link left given faults sink_link taken sink_faults asked ended dialer_faults s.source t.source k k' s.dialer t.dialer addr
+    → seen_by t.pass ≡ seen_by s.pass ++ entries.Rejoin (initial_sink sink_link taken sink_faults k') previous ∷ [] → t.read ≡ s.read → t.buf ≡ s.buf → FeedsFor link left given faults ended dialer_faults b t
+feeds_rejoined {I} {O} {C} {D} link left given faults sink_link taken sink_faults asked ended dialer_faults b s t k k' addr previous f on sink some lost dials seen read buf = record {
+  home = on.home ∙ f.home;
+  outside = on.outside;
+  lies = on.lies;
+  feeding = on.feeding;
+  source = subst (λ (z : Bool). KeepsSourceOf link left given faults z shared t.source t.read (present (seen_by t.pass))) (sym (ap (λ (o : Option ℕ). is_some o) on.tries ∙ some))
+      (subst (λ (m : PresentLink). KeepsSourceOf link left given faults true shared t.source t.read m) (sym now)
+      (source_next link left given faults sink_link taken sink_faults asked ended dialer_faults shared s.source t.source k k' t.read l s.dialer t.dialer addr previous dials));
+  dialer = subst (λ (m : PresentLink). KeepsDialer ended dialer_faults shared b.dialer.value t.dialer m) (sym now)
+      (dialer_next link left given faults sink_link taken sink_faults asked ended dialer_faults shared s.source t.source k k' s.read l b.dialer.value s.dialer t.dialer addr previous dials
+      (subst (λ (z : Bool). KeepsSourceOf link left given faults z shared s.source s.read l) some f.source) sink (lost_some l.write_failed l.stopped lost) f.dialer);
+  open_link = λ is. f.open_link some;
+  read = read ∙ (f.read ∙ ap (λ (bs : List ℕ). b.read + length bs) (sym bytes));
+  within = (let w = f.within in omega (arith, w, read));
+  room = ap (λ x. length x.items) buf ∙ f.room;
+} where
+  shared : InitialGiving
+  shared = shared_giving left given faults b.source.value
+
+  l : PresentLink
+  l = present (seen_by s.pass)
+
+  e : Entry
+  e = entries.Rejoin (initial_sink sink_link taken sink_faults k') previous
+
+  now : present (seen_by t.pass) ≡ present_after l e
+  now = ap (λ (h : List Entry). present h) seen ∙ present_end (seen_by s.pass) e
+
+  bytes : bytes_fed (seen_by t.pass) ≡ bytes_fed (seen_by s.pass)
+  bytes = ap (λ (h : List Entry). bytes_fed h) seen ∙ (flat_map-append fed_by (seen_by s.pass) (e ∷ []) ∙ append-nil (bytes_fed (seen_by s.pass)))
