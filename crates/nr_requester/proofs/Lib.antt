@@ -96,3 +96,6 @@ pub mod EarlierBeside
 pub mod KeptState
 pub mod NoMarks
 pub mod SameTerms
+pub mod SizedCalls
+pub mod SizedLinks
+pub mod NextOpened

@@ -35,9 +35,15 @@ TakeStands before xid (takes.Failed call buffers end) after = StandsOn before (�
 
 -- The same of a requester of a link that may be one that was reopened.
 abbrev pub TakeKeeps : RequesterSide → ℕ → Take → RequesterSide → Type 0
-TakeKeeps before xid (takes.Done done) after = KeepsOn before (λ link. marks.Done link xid done.outcome) after × StopsOn before (λ link. marks.Done link xid done.outcome) after
+TakeKeeps before xid (takes.Done done) after = KeepsOn before (λ link. marks.Done link xid done.outcome) after
 TakeKeeps before xid (takes.NotYet ticket) after = Unit {0}
-TakeKeeps before xid (takes.Failed call buffers end) after = KeepsOn before (λ link. marks.Lost link xid) after × StopsOnRevoke before xid (bytes_of_buffers buffers) after
+TakeKeeps before xid (takes.Failed call buffers end) after = KeepsOn before (λ link. marks.Lost link xid) after
+
+-- And of one that ran out of memory on such a link: its client didn't end, so a call that comes back is revoked.
+abbrev pub TakeStops : RequesterSide → ℕ → Take → RequesterSide → Type 0
+TakeStops before xid (takes.Done done) after = StopsOn before (λ link. marks.Done link xid done.outcome) after
+TakeStops before xid (takes.NotYet ticket) after = Unit {0}
+TakeStops before xid (takes.Failed call buffers end) after = StopsOnRevoke before xid (bytes_of_buffers buffers) after
 
 -- a call that is lost is a mark
 abbrev pub LostIsAMark : Type 0

@@ -1,6 +1,6 @@
 //! Laws of a requester.
 
-ghost use Rattle.nr_requester.specs.Reopening.{CallsGoOn, NextBegins};
+ghost use Rattle.nr_requester.specs.Reopening.{CallsGoOn, NextBegins, NextLinksAreOpened};
 ghost use Rattle.nr_requester.specs.ReopenedLinks.{FirstLinksAreKept, FirstLinksStop};
 ghost use Rattle.nr_requester.specs.Resends.{FeedIsMarks, FirstLinksResendNone};
 ghost use Rattle.nr_requester.specs.EarlierLinks.{EarlierGoes, EarlierCounts, EarlierCountsStopped, EarlierStays, EarlierSubmits, EarlierDrains, EarlierFeeds, EarlierRunsOut, EarlierReopens, EarlierBeside, EarlierDoneLaw, EarlierForgetLaw, EarlierRevokeLaw};
@@ -78,10 +78,12 @@ pub fn releases_are_counted()
 
 /// A requester that stands for the marks of its link, has kept the client's law and hasn't ended, keeps what its next link is opened with: each
 /// call whose answer is awaited, under its xid, by the plan by which it was sent, with its regions under STags that are new; and the messages of
-/// their Sends. So it stands for no marks of the next link, if that can be opened, and keeps the answers of the link that it left.
+/// their Sends. So it stands for no marks of the next link, and keeps the answers of the link that it left. If the link that it leaves was opened in
+/// range, and enough STags are left, so is the next one.
 pub fn calls_go_on()
     ensures next { CallsGoOn }
     ensures begins { NextBegins }
+    ensures opens { NextLinksAreOpened }
 {}
 
 /// A requester that stands for the marks of its link, which may be one that was reopened, goes on from mark to mark: through a call that it

@@ -24,9 +24,13 @@ returns-then-is_some-clause-stands c =
 
 pub returns-then-is_some-clause-keeps : goal.returns-then-is_some-clause-keeps
 returns-then-is_some-clause-keeps c =
-    let number = subst (λ (n : ℕ). n < c.args.self.now.state.next_xid) c.xid-then-is_some.ensures c.take_done.ensures.number in
-    let after = c.take_done.ensures.state ∙ ap (λ (n : ℕ). after_forget c.args.self.now n) c.xid-then-is_some.ensures in
-    (done_keeps c.args.self.now c.take_done.new.self c.args.ticket c.take_done.result.outcome number after, done_stops c.args.self.now c.take_done.new.self c.args.ticket c.take_done.result.outcome number after)
+    done_keeps c.args.self.now c.take_done.new.self c.args.ticket c.take_done.result.outcome (subst (λ (n : ℕ). n < c.args.self.now.state.next_xid) c.xid-then-is_some.ensures c.take_done.ensures.number)
+    (c.take_done.ensures.state ∙ ap (λ (n : ℕ). after_forget c.args.self.now n) c.xid-then-is_some.ensures)
+
+pub returns-then-is_some-clause-stops : goal.returns-then-is_some-clause-stops
+returns-then-is_some-clause-stops c =
+    done_stops c.args.self.now c.take_done.new.self c.args.ticket c.take_done.result.outcome (subst (λ (n : ℕ). n < c.args.self.now.state.next_xid) c.xid-then-is_some.ensures c.take_done.ensures.number)
+    (c.take_done.ensures.state ∙ ap (λ (n : ℕ). after_forget c.args.self.now n) c.xid-then-is_some.ensures)
 
 pub returns-in-None-clause-taken : goal.returns-in-None-clause-taken
 returns-in-None-clause-taken c =
@@ -49,8 +53,7 @@ returns-in-Some-clause-stands c =
     (lost_stands c.args.self.now c.revoke-call.new.self c.args.ticket c.in-Some.end (sym c.end.ensures ∙ c.in-Some.is) c.revoke-call.ensures.number c.revoke-call.ensures.state, c.revoke-call.ensures.out)
 
 pub returns-in-Some-clause-keeps : goal.returns-in-Some-clause-keeps
-returns-in-Some-clause-keeps c =
-    (lost_keeps c.args.self.now c.revoke-call.new.self c.args.ticket c.in-Some.end (sym c.end.ensures ∙ c.in-Some.is) c.revoke-call.ensures.number c.revoke-call.ensures.state, c.revoke-call.ensures.stops)
+returns-in-Some-clause-keeps c = lost_keeps c.args.self.now c.revoke-call.new.self c.args.ticket c.in-Some.end (sym c.end.ensures ∙ c.in-Some.is) c.revoke-call.ensures.number c.revoke-call.ensures.state
 
 pub returns-then-is_some-clause-tickets : goal.returns-then-is_some-clause-tickets
 returns-then-is_some-clause-tickets c =
