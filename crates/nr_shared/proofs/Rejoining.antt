@@ -1,13 +1,16 @@
 -- The value stands on with a lost link that is left, and with the next one.
-use Rattle.std.proofs.Common.{◌≡◌, ◌≢◌, ℕ, suc, ◌+◌, ◌<◌, ◌≤◌, arith, eqb, ltb, cond, Bool, true, false, not, ◌||◌, ◌&&◌, if◌then◌else◌, List, [], ◌∷◌, ◌++◌, length, length-append, map, Option, Some, None, is_some, refl, sym, ap, subst, ◌∙◌, append-nil}
+use Rattle.std.proofs.Common.{◌≡◌, ◌≢◌, ℕ, suc, ◌+◌, ◌-◌, ◌<◌, ◌≤◌, arith, eqb, ltb, cond, Bool, true, false, not, ◌||◌, ◌&&◌, if◌then◌else◌, List, [], ◌∷◌, ◌++◌, length, length-append, map, Option, Some, None, is_some, refl, sym, ap, subst, ◌∙◌, append-nil}
 use Rattle.std.specs.List.{AllByRecursion, filter, find, list_any}
 use Rattle.std.specs.Io.KnownBytes.{Appends}
 use Rattle.std.proofs.KnownBytes.{Appends-nil}
-use Rattle.std.proofs.lemmas.Bool.{cases_eq, eq-eqb, eqb-true, eqb-false, ltb-false, ne_eqb, le-ltb}
+use Rattle.std.proofs.lemmas.Bool.{cases_eq, eq-eqb, eqb-true, eqb-false, ltb-false, ltb-true, ne_eqb, le-ltb}
 use Rattle.nr_link.specs.declared.end.End.{End}
 use Rattle.nr_link.specs.declared.end.End.TheVariants as ends
 use Rattle.nr_reduce.specs.declared.call.Call.{Call}
 use Rattle.nr_reduce.specs.declared.call.Form.{Form}
+use Rattle.nr_reduce.specs.declared.call.Refused.{Refused}
+use Rattle.nr_reduce.specs.declared.call.Refused.TheVariants as refusals
+use Rattle.nr_reduce.specs.Limits.{numbers_end}
 use Rattle.nr_reduce.specs.declared.mark.LinkParameters.{LinkParameters}
 use Rattle.nr_reduce.specs.declared.mark.Mark.{Mark}
 use Rattle.nr_reduce.specs.declared.mark.ResumedCall.{ResumedCall}
@@ -27,7 +30,7 @@ use Rattle.nr_requester.specs.KeptAnswers.{HandsBack, IsAsked, KeepsAnswers, Sti
 use Rattle.nr_requester.specs.OpenCalls.{KeepsTickets, found_answer, open_call}
 use Rattle.nr_requester.specs.RequesterState.{RequesterSide, RequesterState, StoredCall, kept_call, queue_of}
 use Rattle.nr_requester.specs.ReopenedLinks.{HasOwnCalls, KeepsEarlier, RequesterKeeps, earlier_own, next_own, own_answers, own_side}
-use Rattle.nr_requester.specs.Reopening.{HasNoMark, NextIsOpened, OpensNext, ReopenStands, after_reopen, calls_again}
+use Rattle.nr_requester.specs.Reopening.{HasNoMark, NextIsOpened, OpensNext, ReopenStands, after_reopen, calls_again, reopen_refusal, reopen_refusal_by, stags_for_calls}
 use Rattle.nr_requester.proofs.CallsGoOn.{all_answered, calls_go_on}
 use Rattle.nr_requester.proofs.EarlierBeside.{earlier_reopens}
 use Rattle.nr_requester.proofs.NoMarks.{no_marks_law}
@@ -39,17 +42,18 @@ use Rattle.nr_shared.specs.declared.entry.Stop.{Stop}
 use Rattle.nr_shared.specs.declared.entry.Stop.TheVariants as causes
 use Rattle.nr_shared.specs.declared.requester_with_sink.RequesterWithSink.{RequesterWithSink}
 use Rattle.nr_shared.specs.Draining.{initial_sink}
-use Rattle.nr_shared.specs.Histories.{PresentLink, bytes_fed, closes_of, is_feeding, last_feeding, present, present_after, rejoins, stop_of, stopped_by_dial, tries_in, tries_of}
+use Rattle.nr_shared.specs.Histories.{PresentLink, bytes_fed, closes_of, is_feeding, is_lost_by, last_feeding, present, present_after, rejoins, stop_of, stopped_by_dial, tries_in, tries_of}
 use Rattle.nr_shared.specs.LinkRuns.{LinkRun, OpenedLink, call_link, carries, is_of, last_carrier, links_of, next_link}
 use Rattle.nr_shared.specs.LinkStanding.{IsLeft, IsLiveOn, KeepsLinkLaw}
-use Rattle.nr_shared.specs.Output.{IsTryLeft, MayRejoin}
-use Rattle.nr_shared.specs.Standing.{IsWithin, KeepsSinkOf, RejoinsWithin, RepresentsHistory, RepresentsHistoryIf, Stands, is_out_of_memory, one_if, stops_told, tries_max}
+use Rattle.nr_shared.specs.Output.{IsTryLeft, MayRejoin, MayStop}
+use Rattle.nr_shared.specs.Standing.{IsWithin, KeepsSinkIf, KeepsSinkOf, RejoinsWithin, RepresentsHistory, RepresentsHistoryIf, Stands, is_out_of_memory, one_if, stops_told, tries_max}
 use Rattle.nr_shared.proofs.Calls.{calls_kept, closes_end}
 use Rattle.nr_shared.proofs.Chains.{chained_end}
 use Rattle.nr_shared.proofs.Histories.{allowed_end, fed_same, initial_end, present_end, rejoins_grow}
-use Rattle.nr_shared.proofs.LinkRuns.{KeepsNumbers, AreNumbered, left_is, links_end, numbers_of}
+use Rattle.nr_shared.proofs.LinkRuns.{apart_from, left_is, links_end, numbers_of}
 use Rattle.nr_shared.proofs.Output.{follow_end, full_same, output_same}
-use Rattle.nr_shared.proofs.Pieces.{lives_on, stop_has_memory}
+use Rattle.nr_shared.proofs.Ends.{fits_initial, outstanding_is}
+use Rattle.nr_shared.proofs.Pieces.{lost_memory}
 use Rattle.nr_shared.proofs.Steps.{false_true, fits_one_less, still_numbered}
 
 -- ---- Which answers belong to a link
@@ -312,3 +316,216 @@ module _ (r s : RequesterSide) (re : Reopens r s) (live : r.state.side.ended ≡
         law = record { asked = law.0; granted = law.1 };
         left = (last_left, all_left l.left apart_left on.left);
       }
+
+-- ---- The value
+
+refused_by : (r : RequesterState) (o : Option End) → reopen_refusal_by r o ≡ None → o ≡ None
+refused_by r None is = refl
+refused_by r (Some end) is = absurd cc
+
+refusal_live : (r : RequesterState) → reopen_refusal r ≡ None → r.side.ended ≡ None
+unfolding reopen_refusal
+refusal_live r is = refused_by r r.side.ended is
+
+dialled_memory : (i : Option InitialSink) → is_out_of_memory (stopped_by_dial i) ≡ false
+dialled_memory None = refl
+dialled_memory (Some i) = refl
+
+lost_told : (failed : Bool) (o : Option Stop) → is_lost_by failed o ≡ true → stops_told o ≤ 1
+lost_told failed None lost = omega arith
+lost_told failed (Some causes.LinkRead) lost = omega arith
+lost_told failed (Some causes.Closed) lost = omega arith
+lost_told failed (Some causes.Budget) lost = absurd (false_true lost)
+lost_told failed (Some causes.Memory) lost = absurd (false_true lost)
+lost_told failed (Some causes.DialFault) lost = absurd (false_true lost)
+lost_told failed (Some (causes.Spent left need)) lost = absurd (false_true lost)
+lost_told failed (Some causes.NotReopened) lost = absurd (false_true lost)
+
+at_most_one : (b : Bool) → one_if b ≤ 1
+at_most_one true = omega arith
+at_most_one false = omega arith
+
+-- a try is left, so there are fewer than the most
+tries_few : (o : Option ℕ) (n : ℕ) → IsTryLeft o n → RejoinsWithin o n → RejoinsWithin o (suc n) × (suc n ≤ tries_max)
+tries_few None n left within = absurd left
+tries_few (Some tries) n left within = let few = within.1 in (((omega (arith, left)), few), omega (arith, left, few))
+
+-- the links follow
+rejoined : (c : InitialState) (r s : RequesterSide) (h : List Entry) (sink : Option InitialSink) (last : ℕ) → Reopens r s → r.state.side.ended ≡ None → RepresentsHistoryIf false c r h → RepresentsHistoryIf false c s (h ++ entries.Rejoin sink last ∷ [])
+rejoined c r s h sink last re live represents = (
+  (λ bad. none_memory (sym (reopened_ended r s re.staging re.after) ∙ bad)),
+  λ n opened numbers before fits.
+      (let e : Entry = entries.Rejoin sink last in
+      let l = links_of opened numbers before n h in
+      let count : length l.left ≡ rejoins h = left_is opened numbers before n h in
+      let more : rejoins (h ++ e ∷ []) ≡ suc (rejoins h) = ap (λ (p : PresentLink). length p.left) (present_end h e) in
+      let next : ℕ = suc (length l.left) in
+      let within : next ≤ rejoins (h ++ e ∷ []) = omega (arith, count, more) in
+      let keeps = numbers_of opened numbers before n (rejoins (h ++ e ∷ [])) h fits.new in
+      let unused = keeps.unused next (omega arith) within in
+      let other : numbers next ≢ l.at.link = λ same. fits.new.apart (length l.left) next (omega arith) within (sym keeps.numbered.0 ∙ sym same) in
+      subst (λ (x : LinkRun). IsLiveOn x s) (sym (links_end opened numbers before n h e))
+      (next_live r s re live (numbers next) l (represents.1 n opened numbers before (fits_one_less c opened numbers before h e fits)) unused other
+      (apart_from numbers (rejoins (h ++ e ∷ [])) (numbers next) next l.left fits.new.apart refl (omega arith) within keeps.numbered.1))),
+)
+  where
+    none_memory : None ≡ Some ends.Memory → ⊥
+    none_memory e = absurd cc
+
+within_rejoin : {fed_before : ℕ} (r s : RequesterSide) (pending failed : Bool) (stopped stopped' : Option Stop) (h : List Entry) (e : Entry) → is_lost_by failed stopped ≡ true → bytes_fed (h ++ e ∷ []) ≡ bytes_fed h → rejoins (h ++ e ∷ []) ≡ suc (rejoins h) → suc (rejoins h) ≤ tries_max
+    → KeepsTickets r.state s.state → s.state.next_xid ≡ r.state.next_xid → fed_bytes s ≡ 0 → IsWithin fed_before r pending failed stopped h → IsWithin fed_before s true false stopped' (h ++ e ∷ [])
+within_rejoin r s pending failed stopped stopped' h e lost same left few keeps next fed w =
+    let len : length (h ++ e ∷ []) ≡ length h + 1 = length-append h (e ∷ []) in
+    let bytes : length (bytes_fed (h ++ e ∷ [])) ≡ length (bytes_fed h) = ap length same in
+    let length_bound = w.length_bound in
+    let told = lost_told failed stopped lost in
+    let one = at_most_one failed in
+    record {
+      open_xids = w.open_xids;
+      is_open_xid = λ x there. w.is_open_xid x (sym (ap is_some (keeps x)) ∙ there);
+      length_bound = omega (arith, len, bytes, length_bound, next, left, told, one);
+      few = omega (arith, few, left);
+      xids = (let k = w.xids in omega (arith, k, next));
+      bytes = (let b = w.bytes in omega (arith, b, bytes));
+      before = w.before;
+      fed = omega (arith, fed);
+    }
+
+module _ {O C : Type 0} (link : O → ℕ) (taken : O → Option (List ℕ)) (faults : O → ℕ) (allows : Call → Form → Type 0) where
+  -- the sink of the next link is as it was dialled
+  new_sink : (o : Option O) (p : PresentLink) → p.sink ≡ initial_sink link taken faults o → p.written ≡ [] → p.write_failed ≡ false → KeepsSinkOf link taken faults o p
+  new_sink o p sink written failed = subst (λ (i : Option InitialSink). KeepsSinkIf link taken faults o i p) (sym sink) (by o) where
+    by : (o : Option O) → KeepsSinkIf link taken faults o (initial_sink link taken faults o) p
+    by None = tt
+    by (Some s) = record {
+      number = refl;
+      took = subst (Appends (taken s) (taken s)) (sym written) (Appends-nil (taken s));
+      never_falls = omega arith;
+      failed = λ is. absurd (true_false (sym is ∙ failed));
+      counted = λ is. refl;
+    }
+
+  -- what the history says of tries is what the value has
+  pub tries_are : (m : RequesterWithSink O C) (h : List Entry) (st : Stands link taken faults allows m h) → tries_of h ≡ st.initial.tries
+  tries_are m h st = ap tries_in st.is_initial
+
+  -- a link that the value says is lost, and may be dialled again, may be left
+  pub may_rejoin : (m : RequesterWithSink O C) (h : List Entry) → m.requester.state.side.ended ≡ None → is_lost_by m.write_failed m.stopped ≡ true → IsTryLeft m.tries m.rejoined → 0 < length m.requester.state.outstanding → Stands link taken faults allows m h → MayRejoin h
+  may_rejoin m h live lost left some st = record {
+    lost = (λ i. is_lost_by (sym st.write_failed i) (sym st.stopped i)) ∙ lost;
+    live = λ opened numbers before fits.
+        (let on = (subst (λ (b : Bool). RepresentsHistoryIf b st.initial m.requester h) out st.represents).1 0 opened numbers before (fits_initial h st.initial opened numbers before st.is_initial fits) in
+        sym on.keeps.keeps.kept.keeps.ended ∙ live);
+    try_left = subst (λ (o : Option ℕ). IsTryLeft o (rejoins h)) (st.tries ∙ sym (tries_are m h st)) (subst (IsTryLeft m.tries) st.rejoined left);
+    outstanding = outstanding_is link taken faults allows m h out some st;
+  } where
+    out : is_out_of_memory m.stopped ≡ false
+    out = lost_memory m.write_failed m.stopped lost
+
+  -- what a reopened requester's owner has then
+  pub record Joins (m m' : RequesterWithSink O C) : Type 0 where
+    pub tries : m'.tries ≡ m.tries
+    pub rejoined : m'.rejoined ≡ m.rejoined + 1
+    pub count : m'.entries ≡ m.entries + 1
+    pub pending : m'.pending ≡ true
+    pub failed : m'.write_failed ≡ false
+    pub stopped : m'.stopped ≡ stopped_by_dial (initial_sink link taken faults m'.sink)
+    pub free : reopen_refusal m.requester.state ≡ None
+    pub reopens : Reopens m.requester m'.requester
+    pub keeps : KeepsTickets m.requester.state m'.requester.state
+    pub fed : fed_bytes m'.requester ≡ 0
+
+  -- the lost link is left
+  pub leaves : (m m' : RequesterWithSink O C) (h : List Entry) (last : ℕ) → Joins m m' → last_feeding h ≡ Some last → MayRejoin h → Stands link taken faults allows m h
+      → Stands link taken faults allows m' (h ++ entries.Rejoin (initial_sink link taken faults m'.sink) last ∷ [])
+  leaves m m' h last j is_last may st =
+      let sink : Option InitialSink = initial_sink link taken faults m'.sink in
+      let e : Entry = entries.Rejoin sink last in
+      let c = st.initial in
+      let here : present (h ++ e ∷ []) ≡ present_after (present h) e = present_end h e in
+      let more : rejoins (h ++ e ∷ []) ≡ suc (rejoins h) = ap (λ (p : PresentLink). length p.left) here in
+      let live = refusal_live m.requester.state j.free in
+      let lost : is_lost_by m.write_failed m.stopped ≡ true = (λ i. is_lost_by (st.write_failed i) (st.stopped i)) ∙ may.lost in
+      let out : is_out_of_memory m.stopped ≡ false = lost_memory m.write_failed m.stopped lost in
+      let left : IsTryLeft c.tries (rejoins h) = subst (λ (o : Option ℕ). IsTryLeft o (rejoins h)) (tries_are m h st) may.try_left in
+      let few = tries_few c.tries (rejoins h) left st.within_tries in
+      let re = j.reopens in
+      record {
+        initial = c;
+        is_initial = initial_end h e c st.is_initial;
+        entries = (let n = st.entries in let len = length-append h (e ∷ []) in let count = j.count in omega (arith, n, len, count));
+        represents = subst (λ (o : Option Stop). RepresentsHistory c m'.requester o (h ++ e ∷ [])) (sym j.stopped)
+            (subst (λ (b : Bool). RepresentsHistoryIf b c m'.requester (h ++ e ∷ [])) (sym (dialled_memory sink))
+            (rejoined c m.requester m'.requester h sink last re live (subst (λ (b : Bool). RepresentsHistoryIf b c m.requester h) out st.represents)));
+        calls = calls_kept m.requester.state m'.requester.state h e (λ xid. refl) j.keeps st.calls;
+        sink = new_sink m'.sink (present (h ++ e ∷ [])) (ap (λ (p : PresentLink). p.sink) here) (ap (λ (p : PresentLink). p.written) here) (ap (λ (p : PresentLink). p.write_failed) here);
+        tries = j.tries ∙ st.tries;
+        rejoined = (let one = j.rejoined in let was = st.rejoined in omega (arith, one, was, more));
+        within_tries = subst (RejoinsWithin c.tries) (sym more) few.0;
+        numbered = still_numbered c.tries m.requester.state m'.requester.state (reopened_terms m.requester m'.requester re.staging re.after) st.numbered;
+        write_failed = j.failed ∙ sym (ap (λ (p : PresentLink). p.write_failed) here);
+        stopped = j.stopped ∙ sym (ap (λ (p : PresentLink). p.stopped) here);
+        in_order = chained_end closes_of is_feeding 0 None h e st.in_order (λ is. sym is_last);
+        allowed = allowed_end allows h e st.allowed tt;
+        closes_calls = closes_end h e tt st.closes_calls;
+        output = output_same h e refl st.output;
+        in_full = full_same h e refl st.in_full;
+        may_follow = follow_end h e may st.may_follow;
+        pending = λ is. absurd (true_false (sym j.pending ∙ is));
+        within = subst (λ b. IsWithin (fed_bytes c.requester) m'.requester b m'.write_failed m'.stopped (h ++ e ∷ [])) (sym j.pending)
+            (subst (λ b. IsWithin (fed_bytes c.requester) m'.requester true b m'.stopped (h ++ e ∷ [])) (sym j.failed)
+            (within_rejoin m.requester m'.requester m.pending m.write_failed m.stopped m'.stopped h e lost (fed_same h e refl) more few.1 j.keeps (reopened_next m.requester m'.requester re.staging re.after) j.fed st.within));
+      }
+
+-- ---- It can't be left
+
+refusal_spent : (r : RequesterState) (o : Option End) (left need : ℕ) → reopen_refusal_by r o ≡ Some (refusals.Spent left need) → (o ≡ None) × ((left < need) × ((left ≡ numbers_end - r.side.memory.next) × (need ≡ stags_for_calls r.outstanding)))
+refusal_spent r (Some end) left need is = absurd cc
+refusal_spent r None left need is = by (ltb (numbers_end - r.side.memory.next) (stags_for_calls r.outstanding)) refl is
+  where
+    parts : (x y a b : ℕ) → Some (refusals.Spent x y) ≡ Some (refusals.Spent a b) → (x ≡ a) × (y ≡ b)
+    parts x y a b e = (ap left_in e, ap need_in e) where
+      left_in : Option Refused → ℕ
+      left_in (Some (refusals.Spent p q)) = p
+      left_in o = 0
+
+      need_in : Option Refused → ℕ
+      need_in (Some (refusals.Spent p q)) = q
+      need_in o = 0
+
+    by : (b : Bool) → ltb (numbers_end - r.side.memory.next) (stags_for_calls r.outstanding) ≡ b → cond b (Some (refusals.Spent (numbers_end - r.side.memory.next) (stags_for_calls r.outstanding))) None ≡ Some (refusals.Spent left need) →
+        (None ≡ None) × ((left < need) × ((left ≡ numbers_end - r.side.memory.next) × (need ≡ stags_for_calls r.outstanding)))
+    by true less e =
+        let p = parts (numbers_end - r.side.memory.next) (stags_for_calls r.outstanding) left need e in
+        let under : numbers_end - r.side.memory.next < stags_for_calls r.outstanding = ltb-true (numbers_end - r.side.memory.next) (stags_for_calls r.outstanding) less in
+        let one = p.0 in let two = p.1 in
+        (refl, (omega (arith, under, one, two), (sym p.0, sym p.1)))
+    by false less e = absurd cc
+
+spent_says : (r : RequesterState) (left need : ℕ) → reopen_refusal r ≡ Some (refusals.Spent left need) → (r.side.ended ≡ None) × ((left < need) × ((left ≡ numbers_end - r.side.memory.next) × (need ≡ stags_for_calls r.outstanding)))
+unfolding reopen_refusal
+spent_says r left need is = refusal_spent r r.side.ended left need is
+
+first_stag : (opened : LinkParameters) (link : ℕ) (run : List Mark) → (reopened opened link run).first_stag ≡ (client opened link run).state.stag
+unfolding reopened
+first_stag opened link run = refl
+
+module _ {O C : Type 0} (link : O → ℕ) (taken : O → Option (List ℕ)) (faults : O → ℕ) (allows : Call → Form → Type 0) where
+  -- too few STags are left for the calls that would be sent again
+  pub spends : (m : RequesterWithSink O C) (h : List Entry) (left need : ℕ) → reopen_refusal m.requester.state ≡ Some (refusals.Spent left need) → MayRejoin h → Stands link taken faults allows m h → MayStop (causes.Spent left need) h
+  spends m h left need is may st =
+      let says = spent_says m.requester.state left need is in (
+        may,
+        (
+          says.1.0,
+          λ opened numbers before fits.
+              (let l = links_of opened numbers before 0 h in
+              let lost : is_lost_by m.write_failed m.stopped ≡ true = (λ i. is_lost_by (st.write_failed i) (st.stopped i)) ∙ may.lost in
+              let f = subst (λ (b : Bool). RepresentsHistoryIf b st.initial m.requester h) (lost_memory m.write_failed m.stopped lost) st.represents in
+              let on = f.1 0 opened numbers before (fits_initial h st.initial opened numbers before st.is_initial fits) in
+              let next = calls_go_on (is_of l l.at.link) on.earlier l.at.opened l.at.link m.requester l.run on.opens on.law.asked on.keeps says.0 in
+              let stags : m.requester.state.side.memory.next ≡ (client l.at.opened l.at.link l.run).state.stag = (on.keeps.keeps.kept.keeps.memory (sym on.keeps.keeps.kept.keeps.ended ∙ says.0)).next in
+              let first : (reopened l.at.opened l.at.link l.run).first_stag ≡ m.requester.state.side.memory.next = first_stag l.at.opened l.at.link l.run ∙ sym stags in
+              (says.1.1.0 ∙ ap (λ (n : ℕ). numbers_end - n) (sym first), next.stags ∙ (λ i. sym first i + sym says.1.1.1 i))),
+        ),
+      )
