@@ -23,7 +23,7 @@ use Rattle.nr_shared.proofs.Adding.{closes_own_on, got}
 use Rattle.nr_shared.proofs.Calls.{none_some}
 use Rattle.nr_shared.proofs.Lists.{at_after, at_either, in_more}
 use Rattle.nr_shared.proofs.Chains.{last_same, no_link_after}
-use Rattle.nr_shared.proofs.Histories.{initial_more, present_both}
+use Rattle.nr_shared.proofs.Histories.{initial_more}
 use Rattle.nr_shared.proofs.Outstanding.{outstanding_quiet}
 use Rattle.nr_reduce.specs.declared.call.Call.{Call}
 use Rattle.nr_reduce.specs.declared.call.Form.{Form}
@@ -75,8 +75,12 @@ part_from l (e ∷ es) all = part_from (present_after l e) es all.1 ∙ quiet_pa
 pub bytes_quiet : (xs ys : List Entry) → AreQuiet ys → bytes_fed (xs ++ ys) ≡ bytes_fed xs
 bytes_quiet xs ys quiet = flat_map-append fed_by xs ys ∙ (ap (λ (l : List ℕ). flat_map fed_by xs ++ l) (none_fed ys quiet) ∙ append-nil (flat_map fed_by xs))
 
+from_both : (l : PresentLink) (xs ys : List Entry) → present_from l (xs ++ ys) ≡ present_from (present_from l xs) ys
+from_both l [] ys = refl
+from_both l (x ∷ xs) ys = from_both (present_after l x) xs ys
+
 pub part_quiet : (xs ys : List Entry) → AreQuiet ys → read_part (present (xs ++ ys)) ≡ read_part (present xs)
-part_quiet xs ys quiet = ap (λ (l : PresentLink). read_part l) (present_both no_link xs ys) ∙ part_from (present xs) ys quiet
+part_quiet xs ys quiet = ap (λ (l : PresentLink). read_part l) (from_both no_link xs ys) ∙ part_from (present xs) ys quiet
 
 -- what a pass that fed last knows of feeding is so still
 pub record FeedsAlone {O C : Type 0} (p q : Pass (RequesterWithSink O C) Entry) : Type 0 where

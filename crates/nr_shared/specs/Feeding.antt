@@ -54,7 +54,7 @@ pub record KeepsSource {I : Type 0} (link : I → ℕ) (left given : I → Optio
 -- there is none if the last dial failed
 abbrev pub KeepsSourceIf : {I : Type 0} → (link : I → ℕ) → (left given : I → Option (List ℕ)) → (faults : I → ℕ) → (numbered : Bool) → (shared : InitialGiving) → Option I → Option InitialSink → (read : ℕ) → PresentLink → Type 0
 KeepsSourceIf link left given faults numbered shared (Some source) (Some sink) read present = KeepsSource link left given faults numbered shared source sink read present
-KeepsSourceIf link left given faults numbered shared None None read present = ⊤
+KeepsSourceIf link left given faults numbered shared None None read present = present.stopped ≡ Some causes.DialFault
 KeepsSourceIf link left given faults numbered shared source sink read present = ⊥
 
 abbrev pub KeepsSourceOf : {I : Type 0} → (link : I → ℕ) → (left given : I → Option (List ℕ)) → (faults : I → ℕ) → (numbered : Bool) → (shared : InitialGiving) → Option I → (read : ℕ) → PresentLink → Type 0

@@ -2,7 +2,7 @@
 use Rattle.std.specs.Prelude.{◌≡◌, ⊤, ℕ, ◌⊎◌, List, [], ◌∷◌, Option, None, Some}
 use Rattle.nr_outside.specs.Faults.{Rises}
 use Rattle.nr_links.specs.Asked.{Asks}
-use Rattle.nr_links.specs.Links.{EndsLink, HasOpenLink, IsNewLink, LinkLog, MakesLink, ended_link}
+use Rattle.nr_links.specs.Links.{EndsLink, HasOpenLink, IsNewLink, IsTold, LinkLog, MakesLink, ended_link}
 use Rattle.nr_reduce.specs.declared.call.Call.{Call}
 use Rattle.nr_reduce.specs.declared.call.Form.{Form}
 use Rattle.nr_requester.specs.RequesterState.{RequesterSide}
@@ -26,7 +26,7 @@ pub record IsBegun {I D : Type 0} (source_link : I → ℕ) (ended : D → Optio
   pub link_made : HasOpenLink (ended dialer)
 
 -- The history begins with the requester, the sink of a new link and the tries; the source is that of the link, and the dialer dialled it: once, to this address.
-pub record NumberedOpened {I O C D : Type 0} (source_link : I → ℕ) (given : I → Option (List ℕ)) (source_faults : I → ℕ) (asked : D → Option (List (List ℕ))) (ended : D → Option LinkLog) (faults : D → ℕ)
+pub record NumberedOpened {I O C D : Type 0} (source_link : I → ℕ) (left given : I → Option (List ℕ)) (source_faults : I → ℕ) (asked : D → Option (List (List ℕ))) (ended : D → Option LinkLog) (faults : D → ℕ)
     (r : RequesterSide) (dialer : D) (addr : List ℕ) (tries : ℕ) (pass : Pass I O C D) : Type 0 where
   pub sink : InitialSink
   pub seen : seen_by pass.main ≡ entries.Initial (record { requester = r; sink = sink; tries = Some tries }) ∷ []
@@ -35,6 +35,7 @@ pub record NumberedOpened {I O C D : Type 0} (source_link : I → ℕ) (given : 
   pub source : seen_by pass.source ≡ first ∷ []
   pub same : source_link first.source.value ≡ sink.link
   pub new : IsNewLink (given first.source.value) sink.taken (source_faults first.source.value) sink.faults
+  pub told : IsTold (ended first.dialer.value) (given first.source.value) (left first.source.value) sink.taken
   pub unread : first.read ≡ 0
   pub dialled : Asks (asked dialer) (asked first.dialer.value) addr
   pub made : MakesLink (ended dialer) (ended first.dialer.value)

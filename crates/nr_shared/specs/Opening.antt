@@ -12,6 +12,7 @@ use Rattle.nr_shared.specs.declared.entry.Entry.{Entry}
 use Rattle.nr_shared.specs.declared.entry.Entry.TheVariants as entries
 use Rattle.nr_shared.specs.declared.entry.InitialSink.{InitialSink}
 use Rattle.nr_shared.specs.declared.entry.InitialState.{InitialState}
+use Rattle.nr_shared.specs.declared.entry.Stop.TheVariants as causes
 use Rattle.nr_shared.specs.Histories.{AreAllowed, ClosesCalls, FeedsInOrder, IsUnclosed, bytes_fed, closes_of, initial_of, present, rejoins, sink_of, stop_of}
 use Rattle.nr_shared.specs.Standing.{IsNumbered, KeepsCalls, KeepsSink, RejoinsWithin, RepresentsHistory, bytes_before}
 use Rattle.nr_shared.specs.Feeding.{InitialGiving, KeepsDialer, KeepsSource, shared_giving}
@@ -32,12 +33,12 @@ pub record IsInitialHistory {O : Type 0} (link : O → ℕ) (taken : O → Optio
   pub numbered : IsNumbered tries r.state
   pub few : RejoinsWithin tries 0
 
--- a link that is given back, if there is one at hand
+-- a link that is given back; there is none only if the last dial failed
 abbrev pub GivesLink : {I O : Type 0} → (source_link : I → ℕ) → (left given : I → Option (List ℕ)) → (source_faults : I → ℕ) → (sink_link : O → ℕ) → (taken : O → Option (List ℕ)) → (sink_faults : O → ℕ)
     → (numbered : Bool) → (shared : InitialGiving) → (read : ℕ) → Option (I × O) → Option InitialSink → List Entry → Type 0
 GivesLink source_link left given source_faults sink_link taken sink_faults numbered shared read (Some (source, sink)) (Some initial) history =
     KeepsSink sink_link taken sink_faults sink initial (present history) × KeepsSource source_link left given source_faults numbered shared source initial read (present history)
-GivesLink source_link left given source_faults sink_link taken sink_faults numbered shared read None None history = ⊤
+GivesLink source_link left given source_faults sink_link taken sink_faults numbered shared read None None history = stop_of history ≡ Some causes.DialFault
 GivesLink source_link left given source_faults sink_link taken sink_faults numbered shared read link initial history = ⊥
 
 -- What is given back, by a caller that has seen this history and has these places, stands for a history that begins so and has the places; those that

@@ -11,7 +11,7 @@ use nr_reduce::Refused;
 /// Why a call of a shared requester has no answer. A call that was submitted is forgotten then.
 #[derive(Clone, Copy)]
 pub enum CallEnd {
-    /// The requester has ended: the server broke the protocol or sent a Terminate, or memory ran out for a frame or for the next link.
+    /// The requester has ended: the server broke the protocol or sent a Terminate, or memory ran out for a frame.
     Ended(End),
     /// A read of the link failed, and it isn't dialled again.
     LinkRead,
@@ -29,7 +29,7 @@ pub enum CallEnd {
     TooLarge { need: u128, room: u32 },
     /// This many bytes were read, which is the maximum.
     Budget { read: u64 },
-    /// Memory ran out before the call was submitted.
+    /// Memory ran out before the call was submitted; or, once the link was lost, for the next one.
     Memory,
 }
 

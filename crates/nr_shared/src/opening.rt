@@ -329,7 +329,7 @@ impl<
         requires memory { requester.state.side.ended ≢ Some ends.Memory }
         requires fed { fed_bytes requester ≤ bytes_before }
         ensures rests { IfOk result (λ t. SharedRests t.0 t.1) }
-        ensures opened { IfOk result (λ t. NumberedOpened I.link I.given I.faults D.asked D.ended D.faults requester dialer addr.now tries t.1) }
+        ensures opened { IfOk result (λ t. NumberedOpened I.link I.left I.given I.faults D.asked D.ended D.faults requester dialer addr.now tries t.1) }
         ensures err { IfErr result (IsNotShared I.link I.left I.given I.faults O.link O.taken O.faults D.asked D.ended D.faults C.allows requester dialer addr.now tries) }
     {
         let Ok(kept) = String::from_str(alloc, addr) else {

@@ -154,7 +154,8 @@ impl<O: LinkSink + Drop, C: CallRule> RequesterWithSink<O, C> {
         }
         match self.stopped {
             Some(Stop::Budget) => Some(CallEnd::Budget { read: READ_MAX }),
-            Some(Stop::Memory) | Some(Stop::NotReopened) => Some(CallEnd::Ended(End::Memory)),
+            Some(Stop::Memory) => Some(CallEnd::Ended(End::Memory)),
+            Some(Stop::NotReopened) => Some(CallEnd::Memory),
             Some(Stop::DialFault) => Some(CallEnd::DialFault),
             Some(Stop::Spent { left, need }) => Some(CallEnd::Spent { left, need }),
             Some(Stop::LinkRead) | Some(Stop::Closed) | None => self.end_of_loss(),
