@@ -18,6 +18,7 @@ pub mod Resting
 pub mod NextXid
 pub mod Pieces
 pub mod Rejoining
+pub mod Told
 pub mod Givings
 pub mod Taking
 pub mod Alone
