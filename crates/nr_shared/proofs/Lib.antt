@@ -17,6 +17,8 @@ pub mod Polling
 pub mod Resting
 pub mod NextXid
 pub mod Pieces
+pub mod Rejoining
+pub mod Told
 pub mod Givings
 pub mod Taking
 pub mod Alone

@@ -11,7 +11,11 @@ use Rattle.nr_reduce.specs.ClientState.{WaitingCall}
 use Rattle.nr_reduce.specs.Resending.{resend_mark, resends_after}
 use Rattle.nr_reduce.specs.SubmitAnswer.{calls_to_resend}
 use Rattle.nr_reduce.specs.Run.{client}
-use Rattle.nr_requester.specs.Reopening.{HasNoMark, link_of}
+use Rattle.nr_link.specs.declared.agreement.Agreement.{Agreement}
+use Rattle.nr_link.specs.Agreement.{IsSendLimit}
+use Rattle.nr_link.specs.Limits.{send_unit}
+use Rattle.nr_reduce.specs.Opening.{IsFirstLink, lengths_before}
+use Rattle.nr_requester.specs.Reopening.{AgreedInRange, HasNoMark, link_of}
 use Rattle.nr_shared.specs.declared.entry.Entry.{Entry}
 use Rattle.nr_shared.specs.declared.entry.Entry.TheVariants as entries
 use Rattle.nr_shared.specs.declared.entry.InitialState.{InitialState}
@@ -190,3 +194,9 @@ fewer_new numbers few most before le new = record {
 
 pub fits_fewer : (initial : InitialState) (few most : ℕ) (opened : LinkParameters) (numbers : ℕ → ℕ) (before : List Mark) → few ≤ most → FitsInitialState initial most opened numbers before → FitsInitialState initial few opened numbers before
 fits_fewer initial few most opened numbers before le fits = record { opens = fits.opens; first = fits.first; live = fits.live; new = fewer_new numbers few most before le fits.new }
+
+-- a first link is opened in range
+pub first_in_range : (opened : LinkParameters) → IsFirstLink opened → AgreedInRange opened
+first_in_range opened first = subst (λ (o : Option Agreement). IsSendLimit (lengths_before o).up × IsSendLimit (lengths_before o).down) (sym first.agreed) (unit, unit) where
+  unit : IsSendLimit send_unit
+  unit = (omega arith, omega arith)

@@ -52,7 +52,7 @@ left_stay l h h' ms (e ∷ left) stays none all = (
 
 pub goes_on : (l : LinkRun) (h h' : RequesterSide) (ms : List Mark) → (live : IsLiveOn l h) → RequesterKeeps (is_of l l.at.link) live.earlier l.at.opened l.at.link h' (l.run ++ ms) → KeepsLinkLaw l.at.opened l.at.link (l.run ++ ms)
     → KeepsEarlierBeside h h' → AllByRecursion (λ (e : OpenedLink). HasNoMark e.link ms) l.left → IsLiveOn (with_marks l ms) h'
-goes_on l h h' ms live keeps law stays none = record { earlier = live.earlier; keeps = keeps; opens = live.opens; law = law; left = left_stay l h h' ms l.left stays none live.left }
+goes_on l h h' ms live keeps law stays none = record { earlier = live.earlier; keeps = keeps; opens = live.opens; in_range = live.in_range; law = law; left = left_stay l h h' ms l.left stays none live.left }
 
 pub runs_out : (l : LinkRun) (h h' : RequesterSide) (ms stopped : List Mark) → (live : IsLiveOn l h) → RequesterStops (is_of l l.at.link) live.earlier l.at.opened l.at.link h' stopped (l.run ++ ms) → KeepsLinkLaw l.at.opened l.at.link (l.run ++ ms)
     → KeepsEarlierBeside h h' → AllByRecursion (λ (e : OpenedLink). HasNoMark e.link ms) l.left → IsOutOn (with_marks l ms) h'
@@ -125,6 +125,7 @@ module _ (l : LinkRun) (h h' : RequesterSide) (xid : ℕ) (mark : ℕ → Mark) 
       earlier = live.earlier;
       keeps = subst (λ (m : Mark). RequesterKeeps (is_of l l.at.link) live.earlier l.at.opened l.at.link h' (l.run ++ m ∷ [])) (sym (at_link l.at.link own)) (c.keeps (is_of l l.at.link) live.earlier l.at.opened l.at.link l.run live.keeps);
       opens = live.opens;
+      in_range = live.in_range;
       law = subst (λ (m : Mark). KeepsLinkLaw l.at.opened l.at.link (l.run ++ m ∷ [])) (sym (at_link l.at.link own)) (c.law (is_of l l.at.link) live.earlier l.at.opened l.at.link l.run live.keeps own live.law);
       left = close_all l.left c.closes live.left;
     }
@@ -132,6 +133,7 @@ module _ (l : LinkRun) (h h' : RequesterSide) (xid : ℕ) (mark : ℕ → Mark) 
       earlier = live.earlier + 1;
       keeps = c.counts (is_of l l.at.link) live.earlier l.at.opened l.at.link l.run own_mark live.keeps other (other_link l.at.link c.closes other);
       opens = live.opens;
+      in_range = live.in_range;
       law = law_other l.at.opened l.at.link l.run own_mark (other_link l.at.link c.closes other) live.law;
       left = close_all l.left c.closes live.left;
     }

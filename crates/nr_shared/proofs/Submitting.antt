@@ -61,8 +61,8 @@ link_cause calls.DialFault call form h is = is
 link_cause (calls.Spent left need) call form h is = inr is
 link_cause (calls.TooLarge need room) call form h is = absurd (no_large (tries_of h) is) where
   no_large : (o : Option ℕ) → LossEnds o (calls.TooLarge need room) h → ⊥
-  no_large None no = no
-  no_large (Some tries) no = no
+  no_large None ended = ended
+  no_large (Some tries) ended = ended
 link_cause calls.Memory call form h is = tt
 
 module _ {O C : Type 0} where

@@ -8,6 +8,7 @@ use Rattle.nr_reduce.specs.Credits.{KeepsGrant}
 use Rattle.nr_reduce.specs.Opening.{IsOpened}
 use Rattle.nr_requester.specs.RequesterState.{RequesterSide}
 use Rattle.nr_requester.specs.ReopenedLinks.{KeepsEarlier, RequesterKeeps, RequesterStops}
+use Rattle.nr_requester.specs.Reopening.{AgreedInRange}
 use Rattle.nr_shared.specs.LinkRuns.{LinkRun, OpenedLink, is_of}
 
 -- the law of the client's side, and the last grant, on one link
@@ -21,12 +22,13 @@ pub record IsLeft (l : LinkRun) (h : RequesterSide) (e : OpenedLink) : Type 0 wh
   pub opens : IsOpened e.opened
   pub law : KeepsLinkLaw e.opened e.link l.run
 
--- The requester stands for the marks of the link at hand, and keeps the answers of those that were left. `earlier` is how many marks it had made when the
+-- The requester stands for the marks of the link at hand, which was opened in range, and keeps the answers of those that were left. `earlier` is how many marks it had made when the
 -- link at hand began.
 pub record IsLiveOn (l : LinkRun) (h : RequesterSide) : Type 0 where
   pub earlier : ℕ
   pub keeps : RequesterKeeps (is_of l l.at.link) earlier l.at.opened l.at.link h l.run
   pub opens : IsOpened l.at.opened
+  pub in_range : AgreedInRange l.at.opened
   pub law : KeepsLinkLaw l.at.opened l.at.link l.run
   pub left : AllByRecursion (IsLeft l h) l.left
 

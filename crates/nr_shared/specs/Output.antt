@@ -2,9 +2,9 @@
 -- outstanding.
 use Rattle.std.specs.Prelude.{◌≡◌, ◌≢◌, ⊤, ℕ, ◌+◌, ◌-◌, ◌<◌, Bool, true, false, List, [], ◌∷◌, ◌++◌, Option, None, Some, is_some}
 use Rattle.nr_wire.specs.declared.hello.Side.TheVariants.{Initiator}
-use Rattle.nr_reduce.specs.declared.mark.ResumedCall.{ResumedCall}
+use Rattle.nr_reduce.specs.declared.mark.LinkParameters.{LinkParameters}
+use Rattle.nr_reduce.specs.ClientState.{stag_after}
 use Rattle.nr_reduce.specs.Limits.{numbers_end}
-use Rattle.nr_reduce.specs.Plans.{regions_needed}
 use Rattle.nr_reduce.specs.Reopening.{reopened}
 use Rattle.nr_reduce.specs.Run.{HasWritten, client}
 use Rattle.nr_reduce.specs.SubmitAnswer.{calls_counted}
@@ -63,14 +63,13 @@ pub record MayRejoin (before : List Entry) : Type 0 where
   pub try_left : IsTryLeft (tries_of before) (rejoins before)
   pub outstanding : IsCallOutstanding before
 
--- how many regions some calls have that are sent again
-abbrev pub stags_for : List ResumedCall → ℕ
-stags_for [] = 0
-stags_for (r ∷ calls) = regions_needed r.plan + stags_for calls
+-- So many STags are left from this one on, and these calls need so many that are sent again.
+abbrev pub LeavesStags : (left need : ℕ) → LinkParameters → Type 0
+LeavesStags left need next = (left ≡ numbers_end - next.first_stag) × (stag_after next.first_stag next.resumed ≡ next.first_stag + need)
 
 -- The client of the run is left with fewer STags than its calls need that are sent again.
 abbrev pub SpendsStags : (left need : ℕ) → List Entry → Type 0
-SpendsStags left need before = (left < need) × OnLink 0 before (λ opened link run. (left ≡ numbers_end - (client opened link run).state.stag) × (need ≡ stags_for (reopened opened link run).resumed))
+SpendsStags left need before = (left < need) × OnLink 0 before (λ opened link run. LeavesStags left need (reopened opened link run))
 
 -- No more is fed over the link at hand: since a read failed, its stream ended, or the maximum was read, while more may be fed; or since a lost link can't be left.
 abbrev pub MayStop : Stop → List Entry → Type 0
