@@ -68,7 +68,7 @@ abbrev pub both : {I O : Type 0} → Option I → Option O → Option (I × O)
 both (Some source) (Some sink) = Some (source, sink)
 both source sink = None
 
-module _ {I O D : Type 0} (link : I → ℕ) (left given : I → Option (List ℕ)) (source_faults : I → ℕ) (sink_link : O → ℕ) (taken : O → Option (List ℕ)) (sink_faults : O → ℕ) where
+module _ {I O : Type 0} (link : I → ℕ) (left given : I → Option (List ℕ)) (source_faults : I → ℕ) (sink_link : O → ℕ) (taken : O → Option (List ℕ)) (sink_faults : O → ℕ) where
   gives_if : (numbered : Bool) (shared : InitialGiving) (o : Option I) (k : Option O) (i : Option InitialSink) (read : ℕ) (h : List Entry) → KeepsSourceIf link left given source_faults numbered shared o i read (present h) → KeepsSinkIf sink_link taken sink_faults k i (present h)
       → GivesLink link left given source_faults sink_link taken sink_faults numbered shared read (both o k) i h
   gives_if numbered shared (Some source) (Some sink) (Some i) read h s k = (k, s)
@@ -116,7 +116,7 @@ module _ {I O C D : Type 0} (link : I → ℕ) (left given : I → Option (List 
         read = (let w = f.within in omega (arith, w, read));
         link_is = (let x = is_some (tries_of (seen_by s.pass)) in
             subst (λ (z : Bool). GivesLink link left given source_faults sink_link taken sink_faults z shared (b.read + length (bytes_fed h)) (both s.source m.sink) (sink_of h) h) (ap (λ (o : Option ℕ). is_some o) (sym tries ∙ ap tries_in st.is_initial))
-            (gives_if {D = D} link left given source_faults sink_link taken sink_faults x shared s.source m.sink (sink_of h) (b.read + length (bytes_fed h)) h
+            (gives_if link left given source_faults sink_link taken sink_faults x shared s.source m.sink (sink_of h) (b.read + length (bytes_fed h)) h
             (subst (λ (n : ℕ). KeepsSourceOf link left given source_faults x shared s.source n (present h)) read (source_same link left given source_faults x shared s.source s.read (present (seen_by s.pass)) (present h) part f.source))
             st.sink));
         dialer_is = dialer_same ended dialer_faults shared b.dialer.value s.dialer (present (seen_by s.pass)) (present h) part f.dialer;
@@ -148,7 +148,7 @@ module _ {I O C D : Type 0} (link : I → ℕ) (left given : I → Option (List 
         read = (let len : length (bytes_fed h) ≡ 0 = ap length none in omega (arith, within, len));
         link_is = (let shared = shared_giving left given source_faults source in let read = read_before + length (bytes_fed h) in
             subst (λ (z : Bool). GivesLink link left given source_faults sink_link taken sink_faults z shared read (both (Some source) m.sink) (sink_of h) h) (ap (λ (o : Option ℕ). is_some o) (ap tries_in st.is_initial))
-            (gives_if {D = D} link left given source_faults sink_link taken sink_faults (is_some (tries_of h)) shared (Some source) m.sink (sink_of h) read h (source_begun link left given source_faults ended h source dialer read begun) st.sink));
+            (gives_if link left given source_faults sink_link taken sink_faults (is_some (tries_of h)) shared (Some source) m.sink (sink_of h) read h (source_begun link left given source_faults ended h source dialer read begun) st.sink));
         dialer_is = dialer_begun link ended dialer_faults (shared_giving left given source_faults source) h source dialer begun;
       }
 

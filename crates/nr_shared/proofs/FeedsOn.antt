@@ -73,7 +73,7 @@ module _ {I : Type 0} (link : I → ℕ) (left given : I → Option (List ℕ)) 
   by_part : (shared : InitialGiving) (o : Option I) (read : ℕ) (l m : PresentLink) → read_part l ≡ m → KeepsSourceOf link left given faults numbered shared o read m → KeepsSourceOf link left given faults numbered shared o read l
   by_part shared o read l m is k = of_part shared o l.sink read l (subst (λ (x : PresentLink). KeepsSourceOf link left given faults numbered shared o read x) (sym is) k)
 
-  source_same : (shared : InitialGiving) (o : Option I) (read : ℕ) (l m : PresentLink) → read_part m ≡ read_part l → KeepsSourceOf link left given faults numbered shared o read l → KeepsSourceOf link left given faults numbered shared o read m
+  pub source_same : (shared : InitialGiving) (o : Option I) (read : ℕ) (l m : PresentLink) → read_part m ≡ read_part l → KeepsSourceOf link left given faults numbered shared o read l → KeepsSourceOf link left given faults numbered shared o read m
   source_same shared o read l m is k = by_part shared o read m (read_part l) is (to_part shared o l.sink read l k)
 
   -- a piece was read and fed
@@ -239,7 +239,7 @@ module _ {I O D : Type 0} (link : I → ℕ) (left given : I → Option (List �
     ended_one None (Some b) None s t up = absurd t
 
     hung_on : (after : Option LinkLog) → MakesLink d.log after ⊎ (after ≡ d.log) → HungUp shared (past ∷ l.left) (ended first) after
-    hung_on after made = (ended dialer, (d.log, (keeps.hung_up, (ended_one o k l.sink source sink d.hung_up, made))))
+    hung_on after made = (ended dialer, d.log, keeps.hung_up, ended_one o k l.sink source sink d.hung_up, made)
 
     by_next : (x : Option I) (y : Option O) → IsNext link left given faults sink_link taken sink_faults x y addr (asked dialer) (asked dialer') d.log (ended dialer') (dialer_faults dialer) (dialer_faults dialer')
         → KeepsDialer ended dialer_faults shared first dialer' (present_after l (entries.Rejoin (initial_sink sink_link taken sink_faults y) previous))
@@ -303,7 +303,7 @@ module _ {I O C D : Type 0} (link : I → ℕ) (left given : I → Option (List 
         subst (λ (z : Bool). KeepsSourceOf link left given faults z shared t.source t.read (present (seen_by t.pass))) (ap (λ (o : Option ℕ). is_some o) (sym on.tries))
         (subst (λ (o : Option I). KeepsSourceOf link left given faults x shared o t.read (present (seen_by t.pass))) (sym is)
         (by_part link left given faults x shared (Some source') t.read (present (seen_by t.pass)) (present_after l (fed_entry out piece 0)) part
-        (piece_of shared x l.sink l goes (subst (λ (o : Option I). KeepsSourceIf link left given faults x shared o l.sink s.read l) was (to_part link left given faults x shared s.source l.sink s.read (present (seen_by s.pass)) f.source))))));
+        (piece_of shared x out l goes (subst (λ (o : Option I). KeepsSourceIf link left given faults x shared o l.sink s.read l) was (to_part link left given faults x shared s.source l.sink s.read (present (seen_by s.pass)) f.source))))));
     dialer = (let shared = shared_giving left given faults b.source.value in let l = present (seen_by s.pass) in
         subst (λ (d : D). KeepsDialer ended dialer_faults shared b.dialer.value d (present (seen_by t.pass))) (sym dialer)
         (dialer_of ended dialer_faults shared b.dialer.value s.dialer (present (seen_by t.pass)) (subst (λ (m : PresentLink). KeepsDialer ended dialer_faults shared b.dialer.value s.dialer m) (sym part)
@@ -313,8 +313,9 @@ module _ {I O C D : Type 0} (link : I → ℕ) (left given : I → Option (List 
     within = within;
     room = room;
   } where
-    piece_of : (shared : InitialGiving) (x : Bool) (i : Option InitialSink) (l : PresentLink) → l.stopped ≡ None → KeepsSourceIf link left given faults x shared (Some source) i s.read l → KeepsSourceIf link left given faults x shared (Some source') i t.read (present_after l (fed_entry out piece 0))
-    piece_of shared x i l none k = piece_if link left given faults x shared source source' i s.read t.read l piece out gave number same none k
+    piece_of : (shared : InitialGiving) (x o : Bool) (l : PresentLink) → l.stopped ≡ None → KeepsSourceOf link left given faults x shared (Some source) s.read l → KeepsSourceOf link left given faults x shared (Some source') t.read (present_after l (fed_entry o piece 0))
+    piece_of shared x true l none k = piece_if link left given faults x shared source source' l.sink s.read t.read l piece true gave number same none k
+    piece_of shared x false l none k = piece_if link left given faults x shared source source' l.sink s.read t.read l piece false gave number same none k
 
     dialer_piece : (shared : InitialGiving) (o : Bool) (l : PresentLink) → l.stopped ≡ None → KeepsDialer ended dialer_faults shared b.dialer.value s.dialer l → KeepsDialer ended dialer_faults shared b.dialer.value s.dialer (present_after l (fed_entry o piece 0))
     dialer_piece shared true l none k = dialer_stays ended dialer_faults shared b.dialer.value s.dialer l (present_after l (fed_entry true piece 0)) refl refl (λ e. none_some causes.DialFault (sym none ∙ e)) (none_dial true piece 0 l none) k
@@ -338,15 +339,21 @@ module _ {I O C D : Type 0} (link : I → ℕ) (left given : I → Option (List 
     dialer = (let shared = shared_giving left given faults b.source.value in let l = present (seen_by s.pass) in
         subst (λ (d : D). KeepsDialer ended dialer_faults shared b.dialer.value d (present (seen_by t.pass))) (sym dialer)
         (dialer_of ended dialer_faults shared b.dialer.value s.dialer (present (seen_by t.pass)) (subst (λ (m : PresentLink). KeepsDialer ended dialer_faults shared b.dialer.value s.dialer m) (sym part)
-        (dialer_stays ended dialer_faults shared b.dialer.value s.dialer (read_part l) (present_after (read_part l) (entries.Stopped cause 0)) refl refl (λ e. none_some causes.DialFault (sym goes ∙ e)) (λ e. no_dial cause ends (some-injective cause causes.DialFault e))
+        (dialer_stays ended dialer_faults shared b.dialer.value s.dialer (read_part l) (present_after (read_part l) (entries.Stopped cause 0)) refl refl (λ e. none_some causes.DialFault (sym goes ∙ e)) (λ e. no_dial cause ends e)
         (dialer_to ended dialer_faults shared b.dialer.value s.dialer l f.dialer)))));
     open_link = λ some. f.open_link (ap (λ (o : Option ℕ). is_some o) (sym on.tries) ∙ some);
     read = read ∙ (f.read ∙ ap (λ (l : List ℕ). b.read + length l) (sym bytes));
     within = (let w = f.within in omega (arith, w, read));
     room = room;
   } where
-    no_dial : (c : Stop) → IsReadEnd c → c ≡ causes.DialFault → ⊥
-    no_dial c end e = subst IsReadEnd e end
+    no_dial : (c : Stop) → IsReadEnd c → Some c ≡ Some causes.DialFault → ⊥
+    no_dial causes.LinkRead end e = absurd cc
+    no_dial causes.Closed end e = absurd cc
+    no_dial causes.Budget end e = absurd cc
+    no_dial causes.Memory end e = end
+    no_dial causes.DialFault end e = end
+    no_dial (causes.Spent spent need) end e = end
+    no_dial causes.NotReopened end e = end
 
     stop_of_part : (shared : InitialGiving) (x : Bool) (i : Option InitialSink) (l : PresentLink) → KeepsSourceIf link left given faults x shared (Some source) i t.read l → KeepsSourceIf link left given faults x shared (Some source') i t.read (present_after l (entries.Stopped cause 0))
     stop_of_part shared x i l k = stop_if link left given faults x shared source source' i t.read l cause gave number rises same holds k
@@ -367,7 +374,7 @@ module _ {I O C D : Type 0} (link : I → ℕ) (left given : I → Option (List 
     dialer = (let shared = shared_giving left given faults b.source.value in
         subst (λ (d : D). KeepsDialer ended dialer_faults shared b.dialer.value d (present (seen_by t.pass))) (sym dialer)
         (subst (λ (m : PresentLink). KeepsDialer ended dialer_faults shared b.dialer.value s.dialer m) (sym now)
-        (dialer_stays ended dialer_faults shared b.dialer.value s.dialer l (present_after l (entries.Stopped cause previous)) refl refl (lost_some l.write_failed l.stopped lost) (λ e. no_dial cause cannot (some-injective cause causes.DialFault e)) f.dialer)));
+        (dialer_stays ended dialer_faults shared b.dialer.value s.dialer l (present_after l (entries.Stopped cause previous)) refl refl (lost_some l.write_failed l.stopped lost) (λ e. no_dial cause cannot e) f.dialer)));
     open_link = λ some. f.open_link (ap (λ (o : Option ℕ). is_some o) (sym on.tries) ∙ some);
     read = read ∙ (f.read ∙ ap (λ (bs : List ℕ). b.read + length bs) (sym bytes));
     within = (let w = f.within in omega (arith, w, read));
@@ -382,11 +389,14 @@ module _ {I O C D : Type 0} (link : I → ℕ) (left given : I → Option (List 
     bytes : bytes_fed (seen_by t.pass) ≡ bytes_fed (seen_by s.pass)
     bytes = ap (λ (h : List Entry). bytes_fed h) seen ∙ (flat_map-append fed_by (seen_by s.pass) (entries.Stopped cause previous ∷ []) ∙ append-nil (bytes_fed (seen_by s.pass)))
 
-    no_dial : (c : Stop) → CannotReopen c → c ≡ causes.DialFault → ⊥
-    no_dial c end e = subst CannotReopen e end
-
-    no_read : (c : Stop) → CannotReopen c → c ≢ causes.LinkRead
-    no_read c end e = subst CannotReopen e end
+    no_dial : (c : Stop) → CannotReopen c → Some c ≡ Some causes.DialFault → ⊥
+    no_dial (causes.Spent spent need) end e = absurd cc
+    no_dial causes.NotReopened end e = absurd cc
+    no_dial causes.LinkRead end e = end
+    no_dial causes.Closed end e = end
+    no_dial causes.Budget end e = end
+    no_dial causes.Memory end e = end
+    no_dial causes.DialFault end e = end
 
     holds : (c : Stop) (n m : ℕ) (o : Option (List ℕ)) (k : ℕ) → CannotReopen c → StopHolds (Some c) n m o k
     holds (causes.Spent spent need) n m o k end = tt
@@ -407,7 +417,7 @@ module _ {I O C D : Type 0} (link : I → ℕ) (left given : I → Option (List 
 
   -- the value of the source's turn
   pub feeds_value : (b : InitialSource I O C D) (s t : SourceReader I O C D) (h : List (InitialSource I O C D)) → h ≡ b ∷ [] → Feeds link left given faults ended dialer_faults s h → s ≡ t → FeedsFor link left given faults ended dialer_faults b t
-  feeds_value b s t h one (d, (two, f)) same = subst (FeedsFor link left given faults ended dialer_faults b) same (subst (λ (x : InitialSource I O C D). FeedsFor link left given faults ended dialer_faults x s) (only d b (sym two ∙ one)) f) where
+  feeds_value b s t h one (d, two, f) same = subst (FeedsFor link left given faults ended dialer_faults b) same (subst (λ (x : InitialSource I O C D). FeedsFor link left given faults ended dialer_faults x s) (only d b (sym two ∙ one)) f) where
     only : (x y : InitialSource I O C D) → x ∷ [] ≡ y ∷ [] → x ≡ y
     only x y is = some-injective x y (ap (λ (l : List (InitialSource I O C D)). get_elem? l 0) is)
 

@@ -1,5 +1,5 @@
 -- A requester that is shared stands for the history that is named, and the first pass feeds.
-use Rattle.std.proofs.Common.{◌≡◌, ◌⊎◌, ⊎_elim, ℕ, zero, suc, ◌^◌, ◌<◌, ◌≤◌, ◌==◌, arith, Bool, true, false, is_some, List, [], ◌∷◌, length, append-nil, Option, Some, None, refl, sym, ap, subst, ◌∙◌}
+use Rattle.std.proofs.Common.{◌≡◌, ◌⊎◌, ⊎_elim, ℕ, zero, suc, ◌^◌, ◌<◌, ◌≤◌, ◌==◌, arith, Bool, true, false, is_some, List, [], ◌∷◌, length, append-nil, Option, Some, None, refl, sym, ap, subst, ◌∙◌, eq-eqb}
 use Rattle.std.proofs.lemmas.Bool.{cases_lt}
 use Rattle.std.specs.Io.KnownBytes.{Appends}
 use Rattle.std.proofs.KnownBytes.{Appends-nil}
@@ -40,6 +40,7 @@ use Rattle.nr_shared.specs.Standing.{IsNumbered, KeepsSinkOf, RejoinsWithin, Rep
 use Rattle.nr_shared.proofs.Asking.{none_closed}
 use Rattle.nr_shared.proofs.Calls.{closes_end, none_closes, none_some}
 use Rattle.nr_shared.proofs.Histories.{allowed_end}
+use Rattle.nr_shared.proofs.LinkRuns.{first_in_range}
 use Rattle.nr_shared.proofs.Lists.{at_below, at_end, in_places, place_in, places_len}
 use Rattle.nr_shared.proofs.Output.{follow_end, full_same, none_follow, none_wrote, output_none}
 use Rattle.nr_shared.proofs.Steps.{false_true}
@@ -89,6 +90,7 @@ live_first opened numbers before n most c r is fits =
       earlier = 0;
       keeps = subst (λ (own : ℕ → Bool). RequesterKeeps own 0 opened (numbers 0) r before) (sym (all_own at before)) (first_links_are_kept opened (numbers 0) r before live.stands);
       opens = fits.opens;
+      in_range = first_in_range opened fits.first;
       law = record { asked = live.asked; granted = live.granted };
       left = tt;
     })
@@ -148,12 +150,12 @@ module _ {O : Type 0} (link : O → ℕ) (taken : O → Option (List ℕ)) (faul
   earlier_opened r sink tries history o = subst (Earlier closes_of) (sym o.history_is) (earlier_first o.initial)
 
 -- of a history of one entry, the initial state
-module _ {I O C D : Type 0} (link : I → ℕ) (left given : I → Option (List ℕ)) (faults : I → ℕ) (ended : D → Option LinkLog) (dialer_faults : D → ℕ) where
-  pub earlier_begun : (history : List Entry) (source : I) (dialer : D) → IsBegun link ended history source dialer → Earlier closes_of history
-  earlier_begun history source dialer o = subst (Earlier closes_of) (sym o.history_is) (earlier_first o.initial)
+pub earlier_begun : {I D : Type 0} (link : I → ℕ) (ended : D → Option LinkLog) (history : List Entry) (source : I) (dialer : D) → IsBegun link ended history source dialer → Earlier closes_of history
+earlier_begun link ended history source dialer o = subst (Earlier closes_of) (sym o.history_is) (earlier_first o.initial)
 
-  pub first_feeds : (history : List Entry) (source : I) (dialer : D) (p : Pass (RequesterWithSink O C) Entry) → IsBegun link ended history source dialer → seen_by p ≡ history → mine_of p ≡ places (length history) → IsFeeding p
-  first_feeds history source dialer p o seen mine =
+module _ {O C : Type 0} where
+  pub first_feeds : {I D : Type 0} (link : I → ℕ) (ended : D → Option LinkLog) (history : List Entry) (source : I) (dialer : D) (p : Pass (RequesterWithSink O C) Entry) → IsBegun link ended history source dialer → seen_by p ≡ history → mine_of p ≡ places (length history) → IsFeeding p
+  first_feeds link ended history source dialer p o seen mine =
       let c = o.initial in
       let e : Entry = entries.Initial c in
       let is : seen_by p ≡ e ∷ [] = seen ∙ o.history_is in
@@ -207,7 +209,7 @@ dialer_begun link ended faults giving history source dialer o = subst (λ (h : L
 pub first_reader : {I O C D : Type 0} (link : I → ℕ) (left given : I → Option (List ℕ)) (faults : I → ℕ) (ended : D → Option LinkLog) (dialer_faults : D → ℕ) (b : InitialSource I O C D) (s : SourceReader I O C D) (history : List Entry)
     → home_of s.pass ≡ home_of b.pass.value → IsOutside s.pass → Lies (seen_by s.pass) (mine_of s.pass) → IsFeeding s.pass → seen_by s.pass ≡ history → IsBegun link ended history b.source.value b.dialer.value
     → s.source ≡ Some b.source.value → s.dialer ≡ b.dialer.value → s.read ≡ b.read → b.read ≤ read_max → length s.buf.items ≡ piece_max → FeedsFor link left given faults ended dialer_faults b s
-first_reader link left given faults ended dialer_faults b s history home outside lies feeding seen o source dialer read small room = record {
+first_reader {I} {O} {C} {D} link left given faults ended dialer_faults b s history home outside lies feeding seen o source dialer read small room = record {
   home = home;
   outside = outside;
   lies = lies;
