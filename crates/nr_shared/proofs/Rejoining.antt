@@ -391,7 +391,7 @@ within_rejoin r s pending failed stopped stopped' h e lost same left few keeps n
       fed = omega (arith, fed);
     }
 
-module _ {O C : Type 0} (link : O → ℕ) (taken : O → Option (List ℕ)) (faults : O → ℕ) (allows : Call → Form → Type 0) where
+module _ {O : Type 0} (link : O → ℕ) (taken : O → Option (List ℕ)) (faults : O → ℕ) where
   -- the sink of the next link is as it was dialled
   new_sink : (o : Option O) (p : PresentLink) → p.sink ≡ initial_sink link taken faults o → p.written ≡ [] → p.write_failed ≡ false → KeepsSinkOf link taken faults o p
   new_sink o p sink written failed = subst (λ (i : Option InitialSink). KeepsSinkIf link taken faults o i p) (sym sink) (by o) where
@@ -405,6 +405,7 @@ module _ {O C : Type 0} (link : O → ℕ) (taken : O → Option (List ℕ)) (fa
       counted = λ is. refl;
     }
 
+module _ {O C : Type 0} (link : O → ℕ) (taken : O → Option (List ℕ)) (faults : O → ℕ) (allows : Call → Form → Type 0) where
   -- what the history says of tries is what the value has
   pub tries_are : (m : RequesterWithSink O C) (h : List Entry) (st : Stands link taken faults allows m h) → tries_of h ≡ st.initial.tries
   tries_are m h st = ap tries_in st.is_initial
@@ -458,7 +459,7 @@ module _ {O C : Type 0} (link : O → ℕ) (taken : O → Option (List ℕ)) (fa
             (subst (λ (b : Bool). RepresentsHistoryIf b c m'.requester (h ++ e ∷ [])) (sym (dialled_memory sink))
             (rejoined c m.requester m'.requester h sink last re live (subst (λ (b : Bool). RepresentsHistoryIf b c m.requester h) out st.represents)));
         calls = calls_kept m.requester.state m'.requester.state h e (λ xid. refl) j.keeps st.calls;
-        sink = new_sink m'.sink (present (h ++ e ∷ [])) (ap (λ (p : PresentLink). p.sink) here) (ap (λ (p : PresentLink). p.written) here) (ap (λ (p : PresentLink). p.write_failed) here);
+        sink = new_sink link taken faults m'.sink (present (h ++ e ∷ [])) (ap (λ (p : PresentLink). p.sink) here) (ap (λ (p : PresentLink). p.written) here) (ap (λ (p : PresentLink). p.write_failed) here);
         tries = j.tries ∙ st.tries;
         rejoined = (let one = j.rejoined in let was = st.rejoined in omega (arith, one, was, more));
         within_tries = subst (RejoinsWithin c.tries) (sym more) few.0;
@@ -479,32 +480,38 @@ module _ {O C : Type 0} (link : O → ℕ) (taken : O → Option (List ℕ)) (fa
 
 -- ---- It can't be left
 
-refusal_spent : (r : RequesterState) (o : Option End) (left need : ℕ) → reopen_refusal_by r o ≡ Some (refusals.Spent left need) → (o ≡ None) × ((left < need) × ((left ≡ numbers_end - r.side.memory.next) × (need ≡ stags_for_calls r.outstanding)))
+spent_live : (r : RequesterState) (o : Option End) (left need : ℕ) → reopen_refusal_by r o ≡ Some (refusals.Spent left need) → o ≡ None
+spent_live r None left need is = refl
+spent_live r (Some end) left need is = absurd cc
+
+abbrev left_in : Option Refused → ℕ
+left_in (Some (refusals.Spent left need)) = left
+left_in o = 0
+
+abbrev need_in : Option Refused → ℕ
+need_in (Some (refusals.Spent left need)) = need
+need_in o = 0
+
+-- so few STags are left of those that the calls need
+abbrev Spends : RequesterState → (left need : ℕ) → Type 0
+Spends r left need = (left < need) × ((left ≡ numbers_end - r.side.memory.next) × (need ≡ stags_for_calls r.outstanding))
+
+spent_by : (r : RequesterState) (left need : ℕ) (b : Bool) → ltb (numbers_end - r.side.memory.next) (stags_for_calls r.outstanding) ≡ b
+    → cond b (Some (refusals.Spent (numbers_end - r.side.memory.next) (stags_for_calls r.outstanding))) None ≡ Some (refusals.Spent left need) → Spends r left need
+spent_by r left need true less e =
+    let one : numbers_end - r.side.memory.next ≡ left = ap left_in e in
+    let two : stags_for_calls r.outstanding ≡ need = ap need_in e in
+    let under : numbers_end - r.side.memory.next < stags_for_calls r.outstanding = ltb-true (numbers_end - r.side.memory.next) (stags_for_calls r.outstanding) less in
+    (omega (arith, under, one, two), (sym one, sym two))
+spent_by r left need false less e = absurd cc
+
+refusal_spent : (r : RequesterState) (o : Option End) (left need : ℕ) → reopen_refusal_by r o ≡ Some (refusals.Spent left need) → Spends r left need
 refusal_spent r (Some end) left need is = absurd cc
-refusal_spent r None left need is = by (ltb (numbers_end - r.side.memory.next) (stags_for_calls r.outstanding)) refl is
-  where
-    parts : (x y a b : ℕ) → Some (refusals.Spent x y) ≡ Some (refusals.Spent a b) → (x ≡ a) × (y ≡ b)
-    parts x y a b e = (ap left_in e, ap need_in e) where
-      left_in : Option Refused → ℕ
-      left_in (Some (refusals.Spent p q)) = p
-      left_in o = 0
+refusal_spent r None left need is = spent_by r left need (ltb (numbers_end - r.side.memory.next) (stags_for_calls r.outstanding)) refl is
 
-      need_in : Option Refused → ℕ
-      need_in (Some (refusals.Spent p q)) = q
-      need_in o = 0
-
-    by : (b : Bool) → ltb (numbers_end - r.side.memory.next) (stags_for_calls r.outstanding) ≡ b → cond b (Some (refusals.Spent (numbers_end - r.side.memory.next) (stags_for_calls r.outstanding))) None ≡ Some (refusals.Spent left need) →
-        (None ≡ None) × ((left < need) × ((left ≡ numbers_end - r.side.memory.next) × (need ≡ stags_for_calls r.outstanding)))
-    by true less e =
-        let p = parts (numbers_end - r.side.memory.next) (stags_for_calls r.outstanding) left need e in
-        let under : numbers_end - r.side.memory.next < stags_for_calls r.outstanding = ltb-true (numbers_end - r.side.memory.next) (stags_for_calls r.outstanding) less in
-        let one = p.0 in let two = p.1 in
-        (refl, (omega (arith, under, one, two), (sym p.0, sym p.1)))
-    by false less e = absurd cc
-
-spent_says : (r : RequesterState) (left need : ℕ) → reopen_refusal r ≡ Some (refusals.Spent left need) → (r.side.ended ≡ None) × ((left < need) × ((left ≡ numbers_end - r.side.memory.next) × (need ≡ stags_for_calls r.outstanding)))
+spent_says : (r : RequesterState) (left need : ℕ) → reopen_refusal r ≡ Some (refusals.Spent left need) → (r.side.ended ≡ None) × Spends r left need
 unfolding reopen_refusal
-spent_says r left need is = refusal_spent r r.side.ended left need is
+spent_says r left need is = (spent_live r r.side.ended left need is, refusal_spent r r.side.ended left need is)
 
 first_stag : (opened : LinkParameters) (link : ℕ) (run : List Mark) → (reopened opened link run).first_stag ≡ (client opened link run).state.stag
 unfolding reopened

@@ -11,7 +11,7 @@ use Rattle.nr_shared.specs.declared.entry.Stop.{Stop}
 use Rattle.nr_shared.specs.declared.entry.Stop.TheVariants as causes
 use Rattle.nr_shared.specs.declared.requester_with_sink.RequesterWithSink.{RequesterWithSink}
 use Rattle.nr_shared.specs.Ending.{LossEnds}
-use Rattle.nr_shared.specs.Histories.{initial_of, present, present_after, stop_of, tries_in, tries_of}
+use Rattle.nr_shared.specs.Histories.{initial_of, present, present_after, rejoins, stop_of, tries_in, tries_of}
 use Rattle.nr_shared.specs.Output.{EntriesMayFollow, IsTryLeft, MayFollow, MayStop}
 use Rattle.nr_shared.specs.Standing.{Stands}
 use Rattle.nr_shared.proofs.Histories.{initial_end, initial_more, stop_end}
@@ -51,8 +51,8 @@ module _ (c : InitialState) (h : List Entry) (is : initial_of h ≡ Some c) wher
     any None = tt
   by_cause causes.Memory may = absurd may
   by_cause causes.DialFault may = absurd may
-  by_cause (causes.Spent left need) may = told_try c.tries _ (Some (causes.Spent left need)) (own_tries (λ (o : Option ℕ). IsTryLeft o _) may.0.try_left)
-  by_cause causes.NotReopened may = told_try c.tries _ (Some causes.NotReopened) (own_tries (λ (o : Option ℕ). IsTryLeft o _) may.try_left)
+  by_cause (causes.Spent left need) may = told_try c.tries (rejoins h) (Some (causes.Spent left need)) (own_tries (λ (o : Option ℕ). IsTryLeft o (rejoins h)) may.0.try_left)
+  by_cause causes.NotReopened may = told_try c.tries (rejoins h) (Some causes.NotReopened) (own_tries (λ (o : Option ℕ). IsTryLeft o (rejoins h)) may.try_left)
 
   by_entry : (e : Entry) → MayFollow h e → IsTold c.tries (stop_of h) → IsTold c.tries (present_after (present h) e).stopped
   by_entry (entries.Initial initial) may told = told
@@ -66,7 +66,7 @@ module _ (c : InitialState) (h : List Entry) (is : initial_of h ≡ Some c) wher
   by_entry entries.WriteFailed may told = told
   by_entry (entries.Stopped cause previous) may told = by_cause cause may
   by_entry (entries.OutOfMemory piece previous) may told = told_memory c.tries
-  by_entry (entries.Rejoin sink previous) may told = told_try c.tries _ (present_after (present h) (entries.Rejoin sink previous)).stopped (own_tries (λ (o : Option ℕ). IsTryLeft o _) may.try_left)
+  by_entry (entries.Rejoin sink previous) may told = told_try c.tries (rejoins h) (present_after (present h) (entries.Rejoin sink previous)).stopped (own_tries (λ (o : Option ℕ). IsTryLeft o (rejoins h)) may.try_left)
 
 told_from : (c : InitialState) (h es : List Entry) → initial_of h ≡ Some c → EntriesMayFollow (h ++ es) → IsTold c.tries (stop_of h) → IsTold c.tries (stop_of (h ++ es))
 told_from c h [] is may told = subst (λ (l : List Entry). IsTold c.tries (stop_of l)) (sym (append-nil h)) told

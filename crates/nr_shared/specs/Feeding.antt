@@ -4,7 +4,7 @@ use Rattle.std.specs.Io.KnownBytes.{Appends, IsAtEnd}
 use Rattle.nr_outside.specs.Content.{HandsOut}
 use Rattle.nr_outside.specs.Faults.{Rises}
 use Rattle.nr_links.specs.Limits.{piece_max, read_max}
-use Rattle.nr_links.specs.Links.{EndsLink, HasOpenLink, LinkLog, MakesLink, ended_link}
+use Rattle.nr_links.specs.Links.{EndsLink, HasOpenLink, IsNewLink, IsToldNew, LinkLog, MakesLink, ended_link}
 use Rattle.nr_turnstile.specs.Rule.{Lies}
 use Rattle.nr_turnstile.specs.Passes.{IsOutside, home_of, seen_by, mine_of}
 use Rattle.nr_shared.specs.declared.entry.InitialSink.{InitialSink}
@@ -34,17 +34,17 @@ pub record InitialGiving : Type 0 where
   pub given : Option (List ℕ)
   pub faults : ℕ
 
--- as it was shared, if no link was left; else new
-abbrev pub IsFirstGiving : (shared : InitialGiving) → (left : List PastLink) → InitialGiving → Type 0
-IsFirstGiving shared [] first = first ≡ shared
-IsFirstGiving shared (link ∷ left) first = (first.faults ≡ 0) × IfSome first.given (λ bytes. bytes ≡ [])
+-- The source as it was shared, if no link was left; else it and its sink are new, and their bytes are known if the dialer's log is told.
+abbrev pub IsFirstGiving : (told : Bool) → (shared : InitialGiving) → (left : List PastLink) → InitialSink → InitialGiving → Type 0
+IsFirstGiving told shared [] sink first = first ≡ shared
+IsFirstGiving told shared (link ∷ left) sink first = IsNewLink first.given sink.taken first.faults sink.faults × (told ≡ true → IsToldNew first.given first.left sink.taken)
 
 -- What was fed over its link is what the source gave. Its fault count is as it was, unless a read failed. If the link may be dialled again, both halves have one
 -- number.
-pub record KeepsSource {I : Type 0} (link : I → ℕ) (left given : I → Option (List ℕ)) (faults : I → ℕ) (numbered : Bool) (shared : InitialGiving) (source : I) (sink : InitialSink) (read : ℕ) (present : PresentLink) : Type 0 where
+pub record KeepsSource {I : Type 0} (link : I → ℕ) (left given : I → Option (List ℕ)) (faults : I → ℕ) (numbered told : Bool) (shared : InitialGiving) (source : I) (sink : InitialSink) (read : ℕ) (present : PresentLink) : Type 0 where
   pub number : numbered ≡ true → link source ≡ sink.link
   pub first : InitialGiving
-  pub is_first : IsFirstGiving shared present.left first
+  pub is_first : IsFirstGiving told shared present.left sink first
   pub gave : HandsOut first.left first.given (left source) (given source) present.fed
   pub never_falls : first.faults ≤ faults source
   pub failed : present.read_failed ≡ true → Rises first.faults (faults source)
@@ -52,40 +52,46 @@ pub record KeepsSource {I : Type 0} (link : I → ℕ) (left given : I → Optio
   pub stop : StopHolds present.stopped first.faults (faults source) (left source) read
 
 -- there is none if the last dial failed
-abbrev pub KeepsSourceIf : {I : Type 0} → (link : I → ℕ) → (left given : I → Option (List ℕ)) → (faults : I → ℕ) → (numbered : Bool) → (shared : InitialGiving) → Option I → Option InitialSink → (read : ℕ) → PresentLink → Type 0
-KeepsSourceIf link left given faults numbered shared (Some source) (Some sink) read present = KeepsSource link left given faults numbered shared source sink read present
-KeepsSourceIf link left given faults numbered shared None None read present = present.stopped ≡ Some causes.DialFault
-KeepsSourceIf link left given faults numbered shared source sink read present = ⊥
+abbrev pub KeepsSourceIf : {I : Type 0} → (link : I → ℕ) → (left given : I → Option (List ℕ)) → (faults : I → ℕ) → (numbered told : Bool) → (shared : InitialGiving) → Option I → Option InitialSink → (read : ℕ) → PresentLink → Type 0
+KeepsSourceIf link left given faults numbered told shared (Some source) (Some sink) read present = KeepsSource link left given faults numbered told shared source sink read present
+KeepsSourceIf link left given faults numbered told shared None None read present = present.stopped ≡ Some causes.DialFault
+KeepsSourceIf link left given faults numbered told shared source sink read present = ⊥
 
-abbrev pub KeepsSourceOf : {I : Type 0} → (link : I → ℕ) → (left given : I → Option (List ℕ)) → (faults : I → ℕ) → (numbered : Bool) → (shared : InitialGiving) → Option I → (read : ℕ) → PresentLink → Type 0
-KeepsSourceOf link left given faults numbered shared source read present = KeepsSourceIf link left given faults numbered shared source present.sink read present
+abbrev pub KeepsSourceOf : {I : Type 0} → (link : I → ℕ) → (left given : I → Option (List ℕ)) → (faults : I → ℕ) → (numbered told : Bool) → (shared : InitialGiving) → Option I → (read : ℕ) → PresentLink → Type 0
+KeepsSourceOf link left given faults numbered told shared source read present = KeepsSourceIf link left given faults numbered told shared source present.sink read present
 
 -- ---- The dialer
 
 -- A link that was left was hung up: its sink had taken what the history says was written over it, and its source had given what was fed.
-pub record LinkEndedBy (shared : InitialGiving) (past : List PastLink) (p : PastLink) (sink : InitialSink) (before after : Option LinkLog) : Type 0 where
+pub record LinkEndedBy (told : Bool) (shared : InitialGiving) (past : List PastLink) (p : PastLink) (sink : InitialSink) (before after : Option LinkLog) : Type 0 where
   pub given : Option (List ℕ)
   pub left : Option (List ℕ)
   pub taken : Option (List ℕ)
   pub ends : EndsLink before after (ended_link sink.link given left taken)
   pub took : Appends sink.taken taken p.written
   pub first : InitialGiving
-  pub is_first : IsFirstGiving shared past first
+  pub is_first : IsFirstGiving told shared past sink first
   pub gave : HandsOut first.left first.given left given p.fed
 
-abbrev pub LinkEndedIf : InitialGiving → List PastLink → PastLink → Option InitialSink → (before after : Option LinkLog) → Type 0
-LinkEndedIf shared past p (Some sink) before after = LinkEndedBy shared past p sink before after
-LinkEndedIf shared past p None before after = after ≡ before
+abbrev pub LinkEndedIf : (told : Bool) → InitialGiving → List PastLink → PastLink → Option InitialSink → (before after : Option LinkLog) → Type 0
+LinkEndedIf told shared past p (Some sink) before after = LinkEndedBy told shared past p sink before after
+LinkEndedIf told shared past p None before after = after ≡ before
 
--- The links that were left, the last one first, were hung up one after the other, and after each of them a link was made, unless the dial failed.
-abbrev pub HungUp : InitialGiving → List PastLink → (before after : Option LinkLog) → Type 0
-HungUp shared [] before after = after ≡ before
-HungUp shared (p ∷ past) before after = (found : Option LinkLog) × (ended : Option LinkLog) × HungUp shared past before found × LinkEndedIf shared past p p.sink found ended × (MakesLink ended after ⊎ (after ≡ ended))
+-- a link was made, if there is a sink of it
+abbrev pub LinkMade : Option InitialSink → (before after : Option LinkLog) → Type 0
+LinkMade (Some sink) before after = MakesLink before after
+LinkMade None before after = after ≡ before
+
+-- The links that were left, the last one first, were hung up one after the other, and after each of them the next one was made, unless its dial failed.
+-- `sink` is that of the link that followed on them.
+abbrev pub HungUp : (told : Bool) → InitialGiving → (sink : Option InitialSink) → List PastLink → (before after : Option LinkLog) → Type 0
+HungUp told shared sink [] before after = after ≡ before
+HungUp told shared sink (p ∷ past) before after = (found : Option LinkLog) × (ended : Option LinkLog) × HungUp told shared p.sink past before found × LinkEndedIf told shared past p p.sink found ended × LinkMade sink ended after
 
 -- Each link that was left was hung up, and fewer were hung up than made while there is a link. The dialer's count rose if and only if the last dial failed.
 pub record KeepsDialer {D : Type 0} (ended : D → Option LinkLog) (faults : D → ℕ) (giving : InitialGiving) (shared dialer : D) (present : PresentLink) : Type 0 where
   pub open_link : is_some present.sink ≡ true → HasOpenLink (ended shared) → HasOpenLink (ended dialer)
-  pub hung_up : HungUp giving present.left (ended shared) (ended dialer)
+  pub hung_up : HungUp (is_some (ended shared)) giving present.sink present.left (ended shared) (ended dialer)
   pub counted : present.stopped ≢ Some causes.DialFault → faults dialer ≡ faults shared
   pub failed : present.stopped ≡ Some causes.DialFault → Rises (faults shared) (faults dialer)
 
@@ -100,7 +106,7 @@ pub record FeedsFor {I O C D : Type 0} (link : I → ℕ) (left given : I → Op
   pub outside : IsOutside s.pass
   pub lies : Lies (seen_by s.pass) (mine_of s.pass)
   pub feeding : IsFeeding s.pass
-  pub source : KeepsSourceOf link left given faults (is_some (tries_of (seen_by s.pass))) (shared_giving left given faults b.source.value) s.source s.read (present (seen_by s.pass))
+  pub source : KeepsSourceOf link left given faults (is_some (tries_of (seen_by s.pass))) (is_some (ended b.dialer.value)) (shared_giving left given faults b.source.value) s.source s.read (present (seen_by s.pass))
   pub dialer : KeepsDialer ended dialer_faults (shared_giving left given faults b.source.value) b.dialer.value s.dialer (present (seen_by s.pass))
   pub open_link : is_some (tries_of (seen_by s.pass)) ≡ true → HasOpenLink (ended b.dialer.value)
   pub read : s.read ≡ b.read + length (bytes_fed (seen_by s.pass))

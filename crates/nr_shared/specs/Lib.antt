@@ -3,6 +3,7 @@ pub mod Adding
 pub mod Histories
 pub mod Marks
 pub mod LinkRuns
+pub mod OneLink
 pub mod LinkStanding
 pub mod Output
 pub mod HandedBack

@@ -35,11 +35,11 @@ pub record IsInitialHistory {O : Type 0} (link : O → ℕ) (taken : O → Optio
 
 -- a link that is given back; there is none only if the last dial failed
 abbrev pub GivesLink : {I O : Type 0} → (source_link : I → ℕ) → (left given : I → Option (List ℕ)) → (source_faults : I → ℕ) → (sink_link : O → ℕ) → (taken : O → Option (List ℕ)) → (sink_faults : O → ℕ)
-    → (numbered : Bool) → (shared : InitialGiving) → (read : ℕ) → Option (I × O) → Option InitialSink → List Entry → Type 0
-GivesLink source_link left given source_faults sink_link taken sink_faults numbered shared read (Some (source, sink)) (Some initial) history =
-    KeepsSink sink_link taken sink_faults sink initial (present history) × KeepsSource source_link left given source_faults numbered shared source initial read (present history)
-GivesLink source_link left given source_faults sink_link taken sink_faults numbered shared read None None history = stop_of history ≡ Some causes.DialFault
-GivesLink source_link left given source_faults sink_link taken sink_faults numbered shared read link initial history = ⊥
+    → (numbered told : Bool) → (shared : InitialGiving) → (read : ℕ) → Option (I × O) → Option InitialSink → List Entry → Type 0
+GivesLink source_link left given source_faults sink_link taken sink_faults numbered told shared read (Some (source, sink)) (Some initial) history =
+    KeepsSink sink_link taken sink_faults sink initial (present history) × KeepsSource source_link left given source_faults numbered told shared source initial read (present history)
+GivesLink source_link left given source_faults sink_link taken sink_faults numbered told shared read None None history = stop_of history ≡ Some causes.DialFault
+GivesLink source_link left given source_faults sink_link taken sink_faults numbered told shared read link initial history = ⊥
 
 -- What is given back, by a caller that has seen this history and has these places, stands for a history that begins so and has the places; those that
 -- were open are so still. Each call of it is one that callers may make, and is closed once at most, under its xid. The requester represents it, and has
@@ -66,5 +66,5 @@ pub record GivesBack {I O D : Type 0} (source_link : I → ℕ) (left given : I 
   pub within_tries : RejoinsWithin initial.tries (rejoins history)
   pub fed : fed_bytes r ≤ fed_bytes initial.requester + length (bytes_fed history)
   pub read : read_before + length (bytes_fed history) ≤ read_max
-  pub link_is : GivesLink source_link left given source_faults sink_link taken sink_faults (is_some initial.tries) (shared_giving left given source_faults first) (read_before + length (bytes_fed history)) link (sink_of history) history
+  pub link_is : GivesLink source_link left given source_faults sink_link taken sink_faults (is_some initial.tries) (is_some (ended first_dialer)) (shared_giving left given source_faults first) (read_before + length (bytes_fed history)) link (sink_of history) history
   pub dialer_is : KeepsDialer ended dialer_faults (shared_giving left given source_faults first) first_dialer dialer (present history)
