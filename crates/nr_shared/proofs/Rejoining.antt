@@ -46,7 +46,7 @@ use Rattle.nr_shared.specs.Histories.{PresentLink, bytes_fed, closes_of, is_feed
 use Rattle.nr_shared.specs.LinkRuns.{LinkRun, OpenedLink, call_link, carries, is_of, last_carrier, links_of, next_link}
 use Rattle.nr_shared.specs.LinkStanding.{IsLeft, IsLiveOn, KeepsLinkLaw}
 use Rattle.nr_shared.specs.Output.{IsTryLeft, MayRejoin, MayStop}
-use Rattle.nr_shared.specs.Standing.{IsWithin, KeepsSinkIf, KeepsSinkOf, RejoinsWithin, RepresentsHistory, RepresentsHistoryIf, Stands, is_out_of_memory, one_if, stops_told, tries_max}
+use Rattle.nr_shared.specs.Standing.{IsNumbered, IsWithin, KeepsSinkIf, KeepsSinkOf, RejoinsWithin, RepresentsHistory, RepresentsHistoryIf, Stands, is_out_of_memory, one_if, stops_told, tries_max}
 use Rattle.nr_shared.proofs.Calls.{calls_kept, closes_end}
 use Rattle.nr_shared.proofs.Chains.{chained_end}
 use Rattle.nr_shared.proofs.Histories.{allowed_end, fed_same, initial_end, present_end, rejoins_grow}
@@ -477,6 +477,17 @@ module _ {O C : Type 0} (link : O → ℕ) (taken : O → Option (List ℕ)) (fa
             (subst (λ b. IsWithin (fed_bytes c.requester) m'.requester true b m'.stopped (h ++ e ∷ [])) (sym j.failed)
             (within_rejoin m.requester m'.requester m.pending m.write_failed m.stopped m'.stopped h e lost (fed_same h e refl) more few.1 j.keeps (reopened_next m.requester m'.requester re.staging re.after) j.fed st.within));
       }
+
+  -- the requester of a lost link that may be left has a client number
+  pub has_number : (m : RequesterWithSink O C) (h : List Entry) → MayRejoin h → Stands link taken faults allows m h → 0 < m.requester.state.side.terms.number
+  has_number m h may st = by st.initial.tries (subst (λ (o : Option ℕ). IsTryLeft o (rejoins h)) (tries_are m h st) may.try_left) st.numbered where
+    by : (o : Option ℕ) → IsTryLeft o (rejoins h) → IsNumbered o m.requester.state → 0 < m.requester.state.side.terms.number
+    by (Some tries) left number = number
+    by None left number = absurd left
+
+  -- it was left less than so often
+  pub rejoined_few : (m : RequesterWithSink O C) (h : List Entry) → Stands link taken faults allows m h → m.rejoined ≤ tries_max
+  rejoined_few m h st = (let few = st.within.few in let is = st.rejoined in omega (arith, few, is))
 
 -- ---- It can't be left
 

@@ -8,7 +8,7 @@ ghost use Rattle.nr_shared.specs.declared.entry.Entry.TheVariants as entries;
 ghost use Rattle.nr_shared.specs.declared.requester_with_sink.RequesterWithSink.{RequesterWithSink};
 ghost use Rattle.nr_shared.specs.Callers.{IsFeeding, IsReady};
 ghost use Rattle.nr_shared.specs.Draining.{initial_sink};
-ghost use Rattle.nr_shared.specs.Histories.{last_feeding};
+ghost use Rattle.nr_shared.specs.Histories.{last_feeding, stopped_by_dial};
 ghost use Rattle.nr_shared.specs.Output.{MayFeed, MayRejoin, MayStop};
 ghost use Rattle.nr_shared.specs.Dialing.{CannotReopen, DialsNext, HasLink, LinkHungUp};
 ghost use Rattle.nr_shared.specs.private.Reading.{IsUnmoved, Redials, cause_of_refusal};
@@ -77,6 +77,16 @@ fn next_link<I: LinkSource + Drop, O: LinkSink + Drop, D: Dialer<Source = I, Sin
     }
 }
 
+/// Why no more is fed over the next link: its dial failed, if it has no sink.
+fn stop_after_dial<O: LinkSink>(sink: &Option<O>) -> Option<Stop>
+    ensures { result ≡ stopped_by_dial (initial_sink O.link O.taken O.faults sink.now) }
+{
+    match sink {
+        None => Some(Stop::DialFault),
+        Some(_) => None,
+    }
+}
+
 impl<O: LinkSink + Drop, C: CallRule> RequesterWithSink<O, C> {
     /// Leaves the lost link, and dials the next one. Nothing changes if the requester can't be reopened.
     fn redial<I: LinkSource + Drop, D: Dialer<Source = I, Sink = O>>(
@@ -99,11 +109,7 @@ impl<O: LinkSink + Drop, C: CallRule> RequesterWithSink<O, C> {
         next_link(source, &mut self.sink, dialer, addr);
         self.rejoined += 1;
         self.write_failed = false;
-        self.stopped = if self.sink.is_none() {
-            Some(Stop::DialFault)
-        } else {
-            None
-        };
+        self.stopped = stop_after_dial(&self.sink);
         self.pending = true;
         self.entries += 1;
         Ok(())

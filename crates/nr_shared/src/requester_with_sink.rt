@@ -8,9 +8,8 @@ ghost use Rattle.nr_endpoint.specs.declared.fault.DrainFault.TheVariants as drai
 ghost use Rattle.nr_reduce.specs.declared.mark.Mark.TheVariants as marks;
 ghost use Rattle.nr_requester.specs.AfterCalls.{after_drain};
 ghost use Rattle.nr_requester.specs.Fed.{fed_bytes};
-ghost use Rattle.nr_requester.specs.ReopenedLinks.{KeepsOn};
+ghost use Rattle.nr_requester.specs.ReopenedLinks.{KeepsOn, StopsOn};
 ghost use Rattle.nr_requester.specs.RequesterState.{queue_of};
-ghost use Rattle.nr_requester.specs.Standing.{StandsOn, StaysOut};
 ghost use Rattle.nr_rpc.specs.Credential.{CanWriteCred};
 ghost use Rattle.nr_reduce.specs.declared.call.Submission.TheVariants as submissions;
 ghost use Rattle.nr_reduce.specs.declared.call.Refused.TheVariants as refusals;
@@ -52,10 +51,9 @@ fn drain_numbered<N: LinkNumber, O: LinkSink>(
     ensures taken { (n : ℕ) × (n ≤ length (queue_of requester.old.state))
         × Appends (O.taken sink) (O.taken result.0) (take n (queue_of requester.old.state))
         × (requester.new ≡ after_drain n requester.old)
-        × StandsOn requester.old (λ link. marks.Wrote link Initiator (take n (queue_of requester.old.state))) requester.new
-        × StaysOut requester.old (λ link. marks.Wrote link Initiator (take n (queue_of requester.old.state))) requester.new
         × OnOk result.1 (n ≡ length (queue_of requester.old.state))
-        × KeepsOn requester.old (λ link. marks.Wrote link Initiator (take n (queue_of requester.old.state))) requester.new }
+        × KeepsOn requester.old (λ link. marks.Wrote link Initiator (take n (queue_of requester.old.state))) requester.new
+        × StopsOn requester.old (λ link. marks.Wrote link Initiator (take n (queue_of requester.old.state))) requester.new }
     ensures tickets { KeepsTickets requester.old.state requester.new.state }
     ensures fed { fed_bytes requester.new ≡ fed_bytes requester.old }
     ensures counted { MatchResult result.1 (λ _. O.faults result.0 ≡ O.faults sink) (λ e. (e ≡ drains.LinkWrite) × Rises (O.faults sink) (O.faults result.0)) }
