@@ -1,5 +1,5 @@
 -- What is given back at the end.
-use Rattle.std.proofs.Common.{◌≡◌, ◌⊎◌, ⊎_elim, ℕ, ◌+◌, ◌<◌, ◌≤◌, arith, true, false, List, [], ◌∷◌, length, length-append, append-nil, Option, None, Some, refl, sym, ap, subst, ◌∙◌}
+use Rattle.std.proofs.Common.{◌≡◌, ◌⊎◌, ⊎_elim, ℕ, ◌+◌, ◌<◌, ◌≤◌, arith, Bool, true, false, List, [], ◌∷◌, length, length-append, append-nil, Option, None, Some, is_some, refl, sym, ap, subst, ◌∙◌}
 use mathlib.Core.Option.{some, some-injective, some-ne-none}
 use lib.ListN.{get_elem?}
 use Rattle.nr_links.specs.Links.{LinkLog}
@@ -16,7 +16,7 @@ use Rattle.nr_shared.specs.declared.source_reader.SourceReader.{SourceReader}
 use Rattle.nr_shared.specs.declared.requester_with_sink.RequesterWithSink.{RequesterWithSink}
 use Rattle.nr_shared.specs.Callers.{IsCaller, IsFeeding}
 use Rattle.nr_shared.specs.Feeding.{FeedsFor, InitialGiving, KeepsSourceIf, KeepsSourceOf, shared_giving}
-use Rattle.nr_shared.specs.Histories.{FeedsInOrder, PresentLink, bytes_fed, closes_of, initial_of, is_feeding, present, sink_of, stop_of}
+use Rattle.nr_shared.specs.Histories.{FeedsInOrder, PresentLink, bytes_fed, closes_of, initial_of, is_feeding, present, sink_of, stop_of, tries_in, tries_of}
 use Rattle.nr_shared.specs.Numbered.{IsBegun}
 use Rattle.nr_shared.specs.Opening.{GivesBack, GivesLink}
 use Rattle.nr_shared.specs.Standing.{KeepsSinkIf, KeepsSinkOf, RepresentsHistory, Stands}
@@ -25,7 +25,7 @@ use Rattle.nr_shared.proofs.Adding.{begins_then}
 use Rattle.nr_shared.proofs.Alone.{AreQuiet, bytes_quiet, part_quiet}
 use Rattle.nr_shared.proofs.Chains.{no_link_after}
 use Rattle.nr_shared.proofs.FeedsOn.{dialer_same, source_same}
-use Rattle.nr_shared.proofs.Histories.{allowed_by}
+use Rattle.nr_shared.proofs.Histories.{allowed_by, initial_more}
 use Rattle.nr_requester.specs.RequesterState.{RequesterSide}
 use Rattle.nr_shared.proofs.Lists.{at_after, at_begin, in_ordered, not_twice, still_first, still_ordered}
 use Rattle.nr_shared.proofs.Opened.{dialer_begun, source_begun}
@@ -68,15 +68,15 @@ abbrev pub both : {I O : Type 0} → Option I → Option O → Option (I × O)
 both (Some source) (Some sink) = Some (source, sink)
 both source sink = None
 
-module _ {I O D : Type 0} (link : I → ℕ) (left given : I → Option (List ℕ)) (source_faults : I → ℕ) (sink_link : O → ℕ) (taken : O → Option (List ℕ)) (sink_faults : O → ℕ) where
-  gives_if : (shared : InitialGiving) (o : Option I) (k : Option O) (i : Option InitialSink) (read : ℕ) (h : List Entry) → KeepsSourceIf link left given source_faults shared o i read (present h) → KeepsSinkIf sink_link taken sink_faults k i (present h)
-      → GivesLink link left given source_faults sink_link taken sink_faults shared read (both o k) i h
-  gives_if shared (Some source) (Some sink) (Some i) read h s k = (k, s)
-  gives_if shared None None None read h s k = s
-  gives_if shared (Some source) k None read h s t = absurd s
-  gives_if shared None k (Some i) read h s t = absurd s
-  gives_if shared (Some source) None (Some i) read h s t = absurd t
-  gives_if shared None (Some sink) None read h s t = absurd t
+module _ {I O : Type 0} (link : I → ℕ) (left given : I → Option (List ℕ)) (source_faults : I → ℕ) (sink_link : O → ℕ) (taken : O → Option (List ℕ)) (sink_faults : O → ℕ) where
+  gives_if : (numbered : Bool) (shared : InitialGiving) (o : Option I) (k : Option O) (i : Option InitialSink) (read : ℕ) (h : List Entry) → KeepsSourceIf link left given source_faults numbered shared o i read (present h) → KeepsSinkIf sink_link taken sink_faults k i (present h)
+      → GivesLink link left given source_faults sink_link taken sink_faults numbered shared read (both o k) i h
+  gives_if numbered shared (Some source) (Some sink) (Some i) read h s k = (k, s)
+  gives_if numbered shared None None None read h s k = s
+  gives_if numbered shared (Some source) k None read h s t = absurd s
+  gives_if numbered shared None k (Some i) read h s t = absurd s
+  gives_if numbered shared (Some source) None (Some i) read h s t = absurd t
+  gives_if numbered shared None (Some sink) None read h s t = absurd t
 
 module _ {I O C D : Type 0} (link : I → ℕ) (left given : I → Option (List ℕ)) (source_faults : I → ℕ) (sink_link : O → ℕ) (taken : O → Option (List ℕ)) (sink_faults : O → ℕ) (ended : D → Option LinkLog) (dialer_faults : D → ℕ) (allows : Call → Form → Type 0) where
   pub gives_back : (p j : TurnPass (RequesterWithSink O C) Entry) (s : SourceReader I O C D) (m : RequesterWithSink O C) (b : InitialSource I O C D) (h : List Entry) → IsCaller p → FeedsFor link left given source_faults ended dialer_faults b s
@@ -90,6 +90,7 @@ module _ {I O C D : Type 0} (link : I → ℕ) (left given : I → Option (List 
       let part : read_part (present h) ≡ read_part (present (seen_by s.pass)) = ap (λ (l : List Entry). read_part (present l)) fed.1 ∙ part_quiet (seen_by s.pass) fed.0 quiet in
       let read : s.read ≡ b.read + length (bytes_fed h) = f.read ∙ ap (λ (l : List ℕ). b.read + length l) (sym bytes) in
       let shared = shared_giving left given source_faults b.source.value in
+      let tries : tries_of h ≡ tries_of (seen_by s.pass) = ap (λ (l : List Entry). tries_of l) fed.1 ∙ (ap tries_in (initial_more (seen_by s.pass) fed.0 f.feeding.initial f.feeding.is_initial) ∙ sym (ap tries_in f.feeding.is_initial)) in
       record {
         history = h;
         begins = begins;
@@ -113,10 +114,12 @@ module _ {I O C D : Type 0} (link : I → ℕ) (left given : I → Option (List 
         within_tries = st.within_tries;
         fed = st.within.fed;
         read = (let w = f.within in omega (arith, w, read));
-        link_is = gives_if {D = D} link left given source_faults sink_link taken sink_faults shared s.source m.sink (sink_of h) (b.read + length (bytes_fed h)) h
-            (subst (λ (n : ℕ). KeepsSourceOf link left given source_faults shared s.source n (present h)) read (source_same link left given source_faults shared s.source s.read (present (seen_by s.pass)) (present h) part f.source))
-            st.sink;
-        dialer_is = dialer_same ended dialer_faults b.dialer.value s.dialer (present (seen_by s.pass)) (present h) part f.dialer;
+        link_is = (let x = is_some (tries_of (seen_by s.pass)) in
+            subst (λ (z : Bool). GivesLink link left given source_faults sink_link taken sink_faults z shared (b.read + length (bytes_fed h)) (both s.source m.sink) (sink_of h) h) (ap (λ (o : Option ℕ). is_some o) (sym tries ∙ ap tries_in st.is_initial))
+            (gives_if link left given source_faults sink_link taken sink_faults x shared s.source m.sink (sink_of h) (b.read + length (bytes_fed h)) h
+            (subst (λ (n : ℕ). KeepsSourceOf link left given source_faults x shared s.source n (present h)) read (source_same link left given source_faults x shared s.source s.read (present (seen_by s.pass)) (present h) part f.source))
+            st.sink));
+        dialer_is = dialer_same ended dialer_faults shared b.dialer.value s.dialer (present (seen_by s.pass)) (present h) part f.dialer;
       }
 
   -- what wasn't shared
@@ -143,9 +146,10 @@ module _ {I O C D : Type 0} (link : I → ℕ) (left given : I → Option (List 
         within_tries = st.within_tries;
         fed = st.within.fed;
         read = (let len : length (bytes_fed h) ≡ 0 = ap length none in omega (arith, within, len));
-        link_is = gives_if {D = D} link left given source_faults sink_link taken sink_faults (shared_giving left given source_faults source) (Some source) m.sink (sink_of h) (read_before + length (bytes_fed h)) h
-            (source_begun link left given source_faults ended h source dialer (read_before + length (bytes_fed h)) begun) st.sink;
-        dialer_is = dialer_begun link ended dialer_faults h source dialer begun;
+        link_is = (let shared = shared_giving left given source_faults source in let read = read_before + length (bytes_fed h) in
+            subst (λ (z : Bool). GivesLink link left given source_faults sink_link taken sink_faults z shared read (both (Some source) m.sink) (sink_of h) h) (ap (λ (o : Option ℕ). is_some o) (ap tries_in st.is_initial))
+            (gives_if link left given source_faults sink_link taken sink_faults (is_some (tries_of h)) shared (Some source) m.sink (sink_of h) read h (source_begun link left given source_faults ended h source dialer read begun) st.sink));
+        dialer_is = dialer_begun link ended dialer_faults (shared_giving left given source_faults source) h source dialer begun;
       }
 
 -- by another rule, which allows what this one does

@@ -1,5 +1,5 @@
 -- A requester that is shared stands for the history that is named, and the first pass feeds.
-use Rattle.std.proofs.Common.{◌≡◌, ◌⊎◌, ⊎_elim, ℕ, zero, suc, ◌^◌, ◌<◌, ◌≤◌, ◌==◌, arith, Bool, true, false, is_some, List, [], ◌∷◌, length, append-nil, Option, Some, None, refl, sym, ap, subst, ◌∙◌}
+use Rattle.std.proofs.Common.{◌≡◌, ◌⊎◌, ⊎_elim, ℕ, zero, suc, ◌^◌, ◌<◌, ◌≤◌, ◌==◌, arith, Bool, true, false, is_some, List, [], ◌∷◌, length, append-nil, Option, Some, None, refl, sym, ap, subst, ◌∙◌, eq-eqb}
 use Rattle.std.proofs.lemmas.Bool.{cases_lt}
 use Rattle.std.specs.Io.KnownBytes.{Appends}
 use Rattle.std.proofs.KnownBytes.{Appends-nil}
@@ -29,8 +29,8 @@ use Rattle.nr_shared.specs.declared.source_reader.InitialSource.{InitialSource}
 use Rattle.nr_shared.specs.declared.source_reader.SourceReader.{SourceReader}
 use Rattle.nr_shared.specs.declared.requester_with_sink.RequesterWithSink.{RequesterWithSink}
 use Rattle.nr_shared.specs.Callers.{IsFeeding}
-use Rattle.nr_shared.specs.Feeding.{FeedsFor, HungUp, KeepsDialer, KeepsSourceOf, shared_giving}
-use Rattle.nr_shared.specs.Histories.{AreAllowed, IsCallAt, submitted_call, bytes_fed, closes_of, initial_of, last_feeding, present, stop_of}
+use Rattle.nr_shared.specs.Feeding.{FeedsFor, InitialGiving, KeepsDialer, KeepsSourceOf, shared_giving}
+use Rattle.nr_shared.specs.Histories.{AreAllowed, IsCallAt, submitted_call, bytes_fed, closes_of, initial_of, last_feeding, present, tries_of}
 use Rattle.nr_shared.specs.Opening.{IsInitialHistory}
 use Rattle.nr_shared.specs.LinkRuns.{FitsInitialState, OpenedLink, is_of, links_of}
 use Rattle.nr_shared.specs.LinkStanding.{IsLiveOn}
@@ -40,6 +40,7 @@ use Rattle.nr_shared.specs.Standing.{IsNumbered, KeepsSinkOf, RejoinsWithin, Rep
 use Rattle.nr_shared.proofs.Asking.{none_closed}
 use Rattle.nr_shared.proofs.Calls.{closes_end, none_closes, none_some}
 use Rattle.nr_shared.proofs.Histories.{allowed_end}
+use Rattle.nr_shared.proofs.LinkRuns.{first_in_range}
 use Rattle.nr_shared.proofs.Lists.{at_below, at_end, in_places, place_in, places_len}
 use Rattle.nr_shared.proofs.Output.{follow_end, full_same, none_follow, none_wrote, output_none}
 use Rattle.nr_shared.proofs.Steps.{false_true}
@@ -89,6 +90,7 @@ live_first opened numbers before n most c r is fits =
       earlier = 0;
       keeps = subst (λ (own : ℕ → Bool). RequesterKeeps own 0 opened (numbers 0) r before) (sym (all_own at before)) (first_links_are_kept opened (numbers 0) r before live.stands);
       opens = fits.opens;
+      in_range = first_in_range opened fits.first;
       law = record { asked = live.asked; granted = live.granted };
       left = tt;
     })
@@ -148,12 +150,12 @@ module _ {O : Type 0} (link : O → ℕ) (taken : O → Option (List ℕ)) (faul
   earlier_opened r sink tries history o = subst (Earlier closes_of) (sym o.history_is) (earlier_first o.initial)
 
 -- of a history of one entry, the initial state
-module _ {I O C D : Type 0} (link : I → ℕ) (left given : I → Option (List ℕ)) (faults : I → ℕ) (ended : D → Option LinkLog) (dialer_faults : D → ℕ) where
-  pub earlier_begun : (history : List Entry) (source : I) (dialer : D) → IsBegun link ended history source dialer → Earlier closes_of history
-  earlier_begun history source dialer o = subst (Earlier closes_of) (sym o.history_is) (earlier_first o.initial)
+pub earlier_begun : {I D : Type 0} (link : I → ℕ) (ended : D → Option LinkLog) (history : List Entry) (source : I) (dialer : D) → IsBegun link ended history source dialer → Earlier closes_of history
+earlier_begun link ended history source dialer o = subst (Earlier closes_of) (sym o.history_is) (earlier_first o.initial)
 
-  pub first_feeds : (history : List Entry) (source : I) (dialer : D) (p : Pass (RequesterWithSink O C) Entry) → IsBegun link ended history source dialer → seen_by p ≡ history → mine_of p ≡ places (length history) → IsFeeding p
-  first_feeds history source dialer p o seen mine =
+module _ {O C : Type 0} where
+  pub first_feeds : {I D : Type 0} (link : I → ℕ) (ended : D → Option LinkLog) (history : List Entry) (source : I) (dialer : D) (p : Pass (RequesterWithSink O C) Entry) → IsBegun link ended history source dialer → seen_by p ≡ history → mine_of p ≡ places (length history) → IsFeeding p
+  first_feeds link ended history source dialer p o seen mine =
       let c = o.initial in
       let e : Entry = entries.Initial c in
       let is : seen_by p ≡ e ∷ [] = seen ∙ o.history_is in
@@ -179,7 +181,7 @@ module _ {I O C D : Type 0} (link : I → ℕ) (left given : I → Option (List 
       omega (arith, l, same)
 
 -- its source, and the dialer
-source_first : {I : Type 0} (link : I → ℕ) (left given : I → Option (List ℕ)) (faults : I → ℕ) (c : InitialState) (source : I) (read : ℕ) → link source ≡ c.sink.link → KeepsSourceOf link left given faults (shared_giving left given faults source) (Some source) read (present (entries.Initial c ∷ []))
+source_first : {I : Type 0} (link : I → ℕ) (left given : I → Option (List ℕ)) (faults : I → ℕ) (c : InitialState) (source : I) (read : ℕ) → (is_some c.tries ≡ true → link source ≡ c.sink.link) → KeepsSourceOf link left given faults (is_some (tries_of (entries.Initial c ∷ []))) (shared_giving left given faults source) (Some source) read (present (entries.Initial c ∷ []))
 source_first link left given faults c source read number = record {
   number = number;
   first = shared_giving left given faults source;
@@ -192,18 +194,14 @@ source_first link left given faults c source read number = record {
 }
 
 pub source_begun : {I D : Type 0} (link : I → ℕ) (left given : I → Option (List ℕ)) (faults : I → ℕ) (ended : D → Option LinkLog) (history : List Entry) (source : I) (dialer : D) (read : ℕ) → IsBegun link ended history source dialer
-    → KeepsSourceOf link left given faults (shared_giving left given faults source) (Some source) read (present history)
-source_begun link left given faults ended history source dialer read o = subst (λ (h : List Entry). KeepsSourceOf link left given faults (shared_giving left given faults source) (Some source) read (present h)) (sym o.history_is)
+    → KeepsSourceOf link left given faults (is_some (tries_of history)) (shared_giving left given faults source) (Some source) read (present history)
+source_begun link left given faults ended history source dialer read o = subst (λ (h : List Entry). KeepsSourceOf link left given faults (is_some (tries_of h)) (shared_giving left given faults source) (Some source) read (present h)) (sym o.history_is)
     (source_first link left given faults o.initial source read o.same)
 
-none_hung_up : (log : Option LinkLog) → HungUp log log 0
-none_hung_up None = tt
-none_hung_up (Some log) = ([], (sym (append-nil log.ended), refl))
-
-pub dialer_begun : {I D : Type 0} (link : I → ℕ) (ended : D → Option LinkLog) (faults : D → ℕ) (history : List Entry) (source : I) (dialer : D) → IsBegun link ended history source dialer → KeepsDialer ended faults dialer dialer (present history)
-dialer_begun link ended faults history source dialer o = subst (λ (h : List Entry). KeepsDialer ended faults dialer dialer (present h)) (sym o.history_is) (record {
+pub dialer_begun : {I D : Type 0} (link : I → ℕ) (ended : D → Option LinkLog) (faults : D → ℕ) (giving : InitialGiving) (history : List Entry) (source : I) (dialer : D) → IsBegun link ended history source dialer → KeepsDialer ended faults giving dialer dialer (present history)
+dialer_begun link ended faults giving history source dialer o = subst (λ (h : List Entry). KeepsDialer ended faults giving dialer dialer (present h)) (sym o.history_is) (record {
   open_link = λ some opened. opened;
-  hung_up = λ known. none_hung_up (ended dialer);
+  hung_up = refl;
   counted = λ no. refl;
   failed = λ is. absurd cc;
 })
@@ -211,17 +209,18 @@ dialer_begun link ended faults history source dialer o = subst (λ (h : List Ent
 pub first_reader : {I O C D : Type 0} (link : I → ℕ) (left given : I → Option (List ℕ)) (faults : I → ℕ) (ended : D → Option LinkLog) (dialer_faults : D → ℕ) (b : InitialSource I O C D) (s : SourceReader I O C D) (history : List Entry)
     → home_of s.pass ≡ home_of b.pass.value → IsOutside s.pass → Lies (seen_by s.pass) (mine_of s.pass) → IsFeeding s.pass → seen_by s.pass ≡ history → IsBegun link ended history b.source.value b.dialer.value
     → s.source ≡ Some b.source.value → s.dialer ≡ b.dialer.value → s.read ≡ b.read → b.read ≤ read_max → length s.buf.items ≡ piece_max → FeedsFor link left given faults ended dialer_faults b s
-first_reader link left given faults ended dialer_faults b s history home outside lies feeding seen o source dialer read small room = record {
+first_reader {I} {O} {C} {D} link left given faults ended dialer_faults b s history home outside lies feeding seen o source dialer read small room = record {
   home = home;
   outside = outside;
   lies = lies;
   feeding = feeding;
   source = (let shared = shared_giving left given faults b.source.value in
-      subst (λ (x : Option I). KeepsSourceOf link left given faults shared x s.read (present (seen_by s.pass))) (sym source)
-      (subst (λ (h : List Entry). KeepsSourceOf link left given faults shared (Some b.source.value) s.read (present h)) (sym seen) (source_begun link left given faults ended history b.source.value b.dialer.value s.read o)));
-  dialer = subst (λ (d : D). KeepsDialer ended dialer_faults b.dialer.value d (present (seen_by s.pass))) (sym dialer)
-      (subst (λ (h : List Entry). KeepsDialer ended dialer_faults b.dialer.value b.dialer.value (present h)) (sym seen) (dialer_begun link ended dialer_faults history b.source.value b.dialer.value o));
-  open_link = λ some. o.link_made;
+      subst (λ (x : Option I). KeepsSourceOf link left given faults (is_some (tries_of (seen_by s.pass))) shared x s.read (present (seen_by s.pass))) (sym source)
+      (subst (λ (h : List Entry). KeepsSourceOf link left given faults (is_some (tries_of h)) shared (Some b.source.value) s.read (present h)) (sym seen) (source_begun link left given faults ended history b.source.value b.dialer.value s.read o)));
+  dialer = (let shared = shared_giving left given faults b.source.value in
+      subst (λ (d : D). KeepsDialer ended dialer_faults shared b.dialer.value d (present (seen_by s.pass))) (sym dialer)
+      (subst (λ (h : List Entry). KeepsDialer ended dialer_faults shared b.dialer.value b.dialer.value (present h)) (sym seen) (dialer_begun link ended dialer_faults shared history b.source.value b.dialer.value o)));
+  open_link = λ some. o.link_made (sym (ap (λ (h : List Entry). is_some (tries_of h)) (seen ∙ o.history_is)) ∙ some);
   read = (let len : length (bytes_fed (seen_by s.pass)) ≡ 0 = ap (λ (l : List Entry). length (bytes_fed l)) (seen ∙ o.history_is) in omega (arith, read, len));
   within = omega (arith, read, small);
   room = room;

@@ -1,5 +1,5 @@
 -- A requester with a number, which is shared over a link that is dialled.
-use Rattle.std.specs.Prelude.{◌≡◌, ⊤, ℕ, ◌⊎◌, List, [], ◌∷◌, Option, None, Some}
+use Rattle.std.specs.Prelude.{◌≡◌, ⊤, ℕ, ◌⊎◌, true, is_some, List, [], ◌∷◌, Option, None, Some}
 use Rattle.nr_outside.specs.Faults.{Rises}
 use Rattle.nr_links.specs.Asked.{Asks}
 use Rattle.nr_links.specs.Links.{EndsLink, HasOpenLink, IsNewLink, IsTold, LinkLog, MakesLink, ended_link}
@@ -18,12 +18,12 @@ use Rattle.nr_shared.specs.declared.source_reader.InitialSource.{InitialSource}
 use Rattle.nr_shared.specs.Histories.{initial_of}
 use Rattle.nr_shared.specs.Opening.{GivesBack}
 
--- A history of one entry, the initial state, whose sink is of the link of this source. Fewer links were hung up than made.
+-- A history of one entry, the initial state. If the link may be dialled again, its sink is of the link of this source, and fewer links were hung up than made.
 pub record IsBegun {I D : Type 0} (source_link : I → ℕ) (ended : D → Option LinkLog) (history : List Entry) (source : I) (dialer : D) : Type 0 where
   pub initial : InitialState
   pub history_is : history ≡ entries.Initial initial ∷ []
-  pub same : source_link source ≡ initial.sink.link
-  pub link_made : HasOpenLink (ended dialer)
+  pub same : is_some initial.tries ≡ true → source_link source ≡ initial.sink.link
+  pub link_made : is_some initial.tries ≡ true → HasOpenLink (ended dialer)
 
 -- The history begins with the requester, the sink of a new link and the tries; the source is that of the link, and the dialer dialled it: once, to this address.
 pub record NumberedOpened {I O C D : Type 0} (source_link : I → ℕ) (left given : I → Option (List ℕ)) (source_faults : I → ℕ) (asked : D → Option (List (List ℕ))) (ended : D → Option LinkLog) (faults : D → ℕ)

@@ -1,14 +1,12 @@
 //! What a caller finds and does under one turn.
 
-ghost use Rattle.std.specs.Prelude.{◌≡◌, ◌<◌, None, true};
+ghost use Rattle.std.specs.Prelude.{◌≡◌};
 ghost use Rattle.nr_rpc.specs.Credential.{CanWriteCred};
 ghost use Rattle.nr_turnstile.specs.Passes.{seen_by, mine_of};
 ghost use Rattle.nr_turnstile.specs.Turns.{pass_of, IsSameTurn};
 ghost use Rattle.nr_shared.specs.Callers.{HasOpenCall, IsReady};
 ghost use Rattle.nr_shared.specs.private.CreditState.{IsCreditState};
 ghost use Rattle.nr_shared.specs.private.Needs.{IsNeeded};
-ghost use Rattle.nr_shared.specs.Histories.{stop_of};
-ghost use Rattle.nr_shared.specs.Output.{IsCallOutstanding};
 ghost use Rattle.nr_shared.specs.Sharing.{SaysCredit, SaysCreditOutOfMemory};
 ghost use Rattle.nr_shared.specs.Waiting.{IsSubmitTurn, IsPollTurn};
 
@@ -146,7 +144,7 @@ pub(crate) fn submit_if_credit_under<O: LinkSink + Drop, C: CallRule>(
     }
 }
 
-/// What is needed: nothing, if the link has ended, no call is outstanding, the answer of the call is there, or one may be submitted.
+/// What a caller needs that waits for the answer of a call, or to submit one.
 pub(crate) fn need_under<O: LinkSink + Drop, C: CallRule>(
     turn: &mut MainTurn<'_, O, C>,
     ticket: Option<&Ticket>,
@@ -159,23 +157,7 @@ pub(crate) fn need_under<O: LinkSink + Drop, C: CallRule>(
     ensures need { IsNeeded result (seen_by (pass_of turn.old)) }
 {
     let with_sink = turn.value();
-    if with_sink.end().is_some() {
-        return Need::Nothing;
-    }
-    if with_sink.requester.outstanding() == 0 {
-        return Need::Nothing;
-    }
-    let has_enough = match ticket {
-        Some(ticket) => with_sink.requester.has_outcome(ticket),
-        None => with_sink.has_credit(),
-    };
-    if has_enough {
-        return Need::Nothing;
-    }
-    if with_sink.is_lost() {
-        return Need::Link;
-    }
-    Need::Input
+    with_sink.need(ticket)
 }
 
 /// Whether a call may be submitted.

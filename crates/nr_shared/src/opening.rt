@@ -225,7 +225,7 @@ pub enum NotShared<D> {
 }
 
 impl<I: LinkSource + Drop, O: LinkSink + Drop, C: CallRule> SharedRequester<I, O, C, NoDialer<I, O>> {
-    /// Lets callers share a requester with its source and its sink, which are those of one link. `H` names the history that it begins with, whose
+    /// Lets callers share a requester with its source and its sink. `H` names the history that it begins with, whose
     /// one entry is the initial state. `read` is how many bytes of the source were read before: callers read what is left to the maximum. The pass
     /// has seen this history, and nothing is its own. A lost link isn't dialled again. After out of memory all three come back.
     pub fn new<H: OpeningHistory<Entry>, R: Wait>(
@@ -241,7 +241,6 @@ impl<I: LinkSource + Drop, O: LinkSink + Drop, C: CallRule> SharedRequester<I, O
     >
         requires initial { IsInitialHistory O.link O.taken O.faults requester sink None H.history }
         requires read { read ≤ read_max }
-        requires link { I.link source ≡ O.link sink }
         ensures rests { IfOk result (λ t. SharedRests t.0 t.1) }
         ensures seen { IfOk result (λ t. (seen_by t.1.main ≡ H.history) × (mine_of t.1.main ≡ [])) }
         ensures source { IfOk result (λ t. (b : InitialSource I O C (NoDialer I O)) × ((seen_by t.1.source ≡ b ∷ []) × ((b.source.value ≡ source) × (b.read ≡ read)))) }

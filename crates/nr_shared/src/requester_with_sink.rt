@@ -20,6 +20,7 @@ ghost use Rattle.nr_requester.specs.OpenCalls.{KeepsTickets, found_answer};
 
 use crate::call_end::CallEnd;
 use crate::call_rule::CallRule;
+use crate::caller_turns::Need;
 use crate::entry::{Entry, Stop};
 use nr_endpoint::DrainFault;
 use nr_link::End;
@@ -51,9 +52,9 @@ fn drain_numbered<N: LinkNumber, O: LinkSink>(
     ensures taken { (n : ℕ) × (n ≤ length (queue_of requester.old.state))
         × Appends (O.taken sink) (O.taken result.0) (take n (queue_of requester.old.state))
         × (requester.new ≡ after_drain n requester.old)
-        × OnOk result.1 (n ≡ length (queue_of requester.old.state))
         × KeepsOn requester.old (λ link. marks.Wrote link Initiator (take n (queue_of requester.old.state))) requester.new
-        × StopsOn requester.old (λ link. marks.Wrote link Initiator (take n (queue_of requester.old.state))) requester.new }
+        × StopsOn requester.old (λ link. marks.Wrote link Initiator (take n (queue_of requester.old.state))) requester.new
+        × OnOk result.1 (n ≡ length (queue_of requester.old.state)) }
     ensures tickets { KeepsTickets requester.old.state requester.new.state }
     ensures fed { fed_bytes requester.new ≡ fed_bytes requester.old }
     ensures counted { MatchResult result.1 (λ _. O.faults result.0 ≡ O.faults sink) (λ e. (e ≡ drains.LinkWrite) × Rises (O.faults sink) (O.faults result.0)) }
@@ -118,7 +119,7 @@ impl<O: LinkSink + Drop, C: CallRule> RequesterWithSink<O, C> {
     ghost use Rattle.nr_shared.specs.Ending.{LinkEnded, LossEnds};
     ghost use Rattle.nr_shared.specs.Opening.{IsInitialHistory};
     ghost use Rattle.nr_shared.specs.Output.{IsCallOutstanding, IsTryLeft, MayStop};
-    ghost use Rattle.nr_shared.specs.private.Needs.{GoesOn};
+    ghost use Rattle.nr_shared.specs.private.Needs.{GoesOn, IsNeeded};
 
     /// A requester that is shared, with its sink. Output may be pending.
     pub(crate) fn of_parts(
@@ -202,6 +203,35 @@ impl<O: LinkSink + Drop, C: CallRule> RequesterWithSink<O, C> {
         ensures { result ≡ is_lost_by self.now.write_failed self.now.stopped }
     {
         self.loss().is_some()
+    }
+
+    /// What a caller needs that waits for the answer of a call, or to submit one: nothing, if no answer comes any more, no call is outstanding, or it
+    /// can go on.
+    pub(crate) fn need(&self, ticket: Option<&Ticket>) -> Need
+        ensures { (history : List Entry) → Stands O.link O.taken O.faults C.allows self.now history → IsNeeded result history }
+    {
+        if self.end().is_some() {
+            return Need::Nothing;
+        }
+        if self.requester.outstanding() == 0 {
+            return Need::Nothing;
+        }
+        if self.has_enough(ticket) {
+            return Need::Nothing;
+        }
+        if self.is_lost() {
+            Need::Link
+        } else {
+            Need::Input
+        }
+    }
+
+    /// Whether the answer of this call is there; or, without a call, whether one may be submitted.
+    fn has_enough(&self, ticket: Option<&Ticket>) -> bool {
+        match ticket {
+            Some(ticket) => self.requester.has_outcome(ticket),
+            None => self.has_credit(),
+        }
     }
 
     /// Whether a credit is left, and the next xid isn't too far above the least one.

@@ -18,7 +18,7 @@ returns-in-NotYet-clause-taken g c = let t = c.in-NotYet.ensures.taken in λ his
 
 pub returns-in-Done-clause-taken : goal.returns-in-Done-clause-taken
 returns-in-Done-clause-taken g c = let t = c.in-Done.ensures in λ history k call st asked unclosed. (
-  hands_over g.O.LinkSink.link g.O.Sink.taken g.O.Sink.faults g.C.CallRule.allows c.args.self.now _ c.args.ticket k call _ history (record { sink = refl; tries = refl; rejoined = refl; failed = refl; stopped = refl }) refl refl t.taken.0 t.taken.1.1 t.keeps.0 t.keeps.1 t.tickets asked unclosed st,
+  hands_over g.O.LinkSink.link g.O.Sink.taken g.O.Sink.faults g.C.CallRule.allows c.args.self.now _ c.args.ticket k call _ history (record { sink = refl; tries = refl; rejoined = refl; failed = refl; stopped = refl }) refl refl t.taken.0 t.taken.1.1 t.keeps t.stops t.tickets asked unclosed st,
   (
     ap (λ (o : Option Call). unwrap_or o call) (sym t.taken.1.0 ∙ (st.calls c.args.ticket k call asked unclosed).1),
     have_placed g.O.LinkSink.link g.O.Sink.taken g.O.Sink.faults g.C.CallRule.allows c.args.self.now history c.args.ticket _ t.taken.0 st,
@@ -28,7 +28,7 @@ returns-in-Done-clause-taken g c = let t = c.in-Done.ensures in λ history k cal
 pub returns-in-Failed-clause-taken : goal.returns-in-Failed-clause-taken
 returns-in-Failed-clause-taken g c = let t = c.in-Failed.ensures in λ history k call st asked unclosed. (
   loses g.O.LinkSink.link g.O.Sink.taken g.O.Sink.faults g.C.CallRule.allows c.args.self.now _ c.args.ticket k call c.in-Failed.buffers c.in-Failed.end history
-      (record { same = record { sink = refl; tries = refl; rejoined = refl; failed = refl; stopped = refl }; count = refl; pending = refl; none = t.taken.0; are = t.taken.1.1.1.0; after = t.taken.1.1.1.1; on = t.keeps.0; stops = t.keeps.1; shuts = t.tickets; fed = t.fed }) t.taken.1.0 asked unclosed st,
+      (record { same = record { sink = refl; tries = refl; rejoined = refl; failed = refl; stopped = refl }; count = refl; pending = refl; none = t.taken.0; are = t.taken.1.1.1.0; after = t.taken.1.1.1.1; on = t.keeps; stops = t.stops; shuts = t.tickets; fed = t.fed }) t.taken.1.0 asked unclosed st,
   (
     ap (λ (o : Option Call). unwrap_or o call) (sym t.taken.1.1.0 ∙ (st.calls c.args.ticket k call asked unclosed).1),
     (
