@@ -1,5 +1,5 @@
 -- No other pass feeds: what was fed, and why no more is, is as the pass that fed last knew it.
-use Rattle.std.proofs.Common.{◌≡◌, ℕ, zero, suc, true, false, List, [], ◌∷◌, ◌++◌, Option, Some, None, refl, sym, ap, subst, ◌∙◌, append-nil, ◌⊎◌, ⊎_elim}
+use Rattle.std.proofs.Common.{◌≡◌, ◌≢◌, ℕ, zero, suc, Bool, true, false, List, [], ◌∷◌, ◌++◌, Option, Some, None, refl, sym, ap, subst, ◌∙◌, append-nil, ◌⊎◌, ⊎_elim}
 use Rattle.std.specs.List.{AllByRecursion, flat_map}
 use Rattle.std.proofs.lemmas.Grind.{flat_map-append}
 use mathlib.Core.Option.{some, some-injective, some-ne-none}
@@ -10,20 +10,22 @@ use Rattle.nr_turnstile.specs.Rule.{IsIn, IsOpen, Lies}
 use Rattle.nr_turnstile.specs.Passes.{Gets, seen_by, mine_of}
 use Rattle.nr_turnstile.proofs.Open.{stays_open}
 use Rattle.nr_shared.specs.declared.entry.Stop.{Stop}
+use Rattle.nr_shared.specs.declared.entry.Stop.TheVariants as causes
+use Rattle.nr_shared.specs.declared.entry.InitialState.{InitialState}
 use Rattle.nr_shared.specs.declared.entry.Entry.{Entry}
 use Rattle.nr_shared.specs.declared.entry.Entry.TheVariants as entries
 use Rattle.nr_shared.specs.declared.requester_with_sink.RequesterWithSink.{RequesterWithSink}
-use Rattle.nr_shared.specs.Histories.{PresentLink, closes_of, is_feeding, last_feeding, FeedsInOrder, initial_of, fed_by, bytes_fed, no_link, present, present_after, present_from}
+use Rattle.nr_shared.specs.Histories.{PresentLink, closes_of, is_feeding, last_feeding, FeedsInOrder, initial_of, fed_by, bytes_fed, no_link, present, present_after, present_from, tries_in, tries_of}
 use Rattle.nr_shared.specs.Standing.{Stands}
 use Rattle.nr_shared.specs.Callers.{IsFeeding, Writes}
-use Rattle.nr_shared.specs.Draining.{AreWrites}
-use Rattle.nr_shared.specs.private.Reading.{read_part}
-use Rattle.nr_shared.specs.Output.{IsCallOutstanding}
+use Rattle.nr_shared.specs.Draining.{AreWrites, fed_entry}
+use Rattle.nr_shared.specs.private.Reading.{IsReadEnd, read_part}
+use Rattle.nr_shared.specs.Output.{IsCallOutstanding, MayFeed, MayStop}
 use Rattle.nr_shared.proofs.Adding.{closes_own_on, got}
 use Rattle.nr_shared.proofs.Calls.{none_some}
 use Rattle.nr_shared.proofs.Lists.{at_after, at_either, in_more}
 use Rattle.nr_shared.proofs.Chains.{last_same, no_link_after}
-use Rattle.nr_shared.proofs.Histories.{initial_more}
+use Rattle.nr_shared.proofs.Histories.{initial_more, present_end}
 use Rattle.nr_shared.proofs.Outstanding.{outstanding_quiet}
 use Rattle.nr_reduce.specs.declared.call.Call.{Call}
 use Rattle.nr_reduce.specs.declared.call.Form.{Form}
@@ -176,3 +178,28 @@ alone_writes p q w lies fe =
       initial_is = ap (λ (l : List Entry). initial_of l) w.seen ∙ (initial_more xs w.es fe.initial fe.is_initial ∙ sym fe.is_initial);
       outstanding = λ out. subst IsCallOutstanding (sym w.seen) (outstanding_quiet xs w.es fe.initial fe.is_initial quiet out);
     }
+
+-- ---- One entry that feeds
+
+pub part_piece : (h : List Entry) (out : Bool) (piece : List ℕ) (n : ℕ) → read_part (present (h ++ fed_entry out piece n ∷ [])) ≡ present_after (read_part (present h)) (fed_entry out piece 0)
+part_piece h true piece n = ap (λ (l : PresentLink). read_part l) (present_end h (entries.OutOfMemory piece n))
+part_piece h false piece n = ap (λ (l : PresentLink). read_part l) (present_end h (entries.Fed piece n))
+
+pub part_stop : (h : List Entry) (cause : Stop) (n : ℕ) → read_part (present (h ++ entries.Stopped cause n ∷ [])) ≡ present_after (read_part (present h)) (entries.Stopped cause 0)
+part_stop h cause n = ap (λ (l : PresentLink). read_part l) (present_end h (entries.Stopped cause n))
+
+pub tries_more : (h : List Entry) (e : Entry) (c : InitialState) → initial_of h ≡ Some c → tries_of (h ++ e ∷ []) ≡ tries_of h
+tries_more h e c is = ap tries_in (initial_more h (e ∷ []) c is ∙ sym is)
+
+-- the end of a read may follow while more may be fed
+pub may_read : (cause : Stop) (h : List Entry) → IsReadEnd cause → MayFeed h → MayStop cause h
+may_read causes.LinkRead h end may = may
+may_read causes.Closed h end may = may
+may_read causes.Budget h end may = may
+may_read causes.Memory h end may = absurd end
+may_read causes.DialFault h end may = absurd end
+may_read (causes.Spent spent need) h end may = absurd end
+may_read causes.NotReopened h end may = absurd end
+
+pub not_memory : (cause : Stop) → IsReadEnd cause → cause ≢ causes.Memory
+not_memory cause end e = subst IsReadEnd e end

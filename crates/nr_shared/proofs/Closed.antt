@@ -2,13 +2,14 @@
 use Rattle.std.proofs.Common.{◌≡◌, ◌⊎◌, ⊎_elim, ℕ, ◌+◌, ◌<◌, ◌≤◌, arith, Bool, true, false, List, [], ◌∷◌, length, length-append, append-nil, Option, None, Some, is_some, refl, sym, ap, subst, ◌∙◌}
 use mathlib.Core.Option.{some, some-injective, some-ne-none}
 use lib.ListN.{get_elem?}
-use Rattle.nr_links.specs.Links.{LinkLog}
+use Rattle.nr_links.specs.Links.{HasOpenLink, LinkLog}
 use Rattle.nr_links.specs.Limits.{read_max}
 use Rattle.nr_turnstile.specs.declared.turnstile.Pass.{Pass as TurnPass}
 use Rattle.nr_turnstile.specs.Rule.{Begins, Earlier, IsIn, Lies, Owns, Rising, in_order}
 use Rattle.nr_turnstile.specs.Passes.{Joins, mine_of, seen_by}
 use Rattle.nr_shared.specs.declared.entry.Entry.{Entry}
 use Rattle.nr_shared.specs.declared.entry.InitialSink.{InitialSink}
+use Rattle.nr_shared.specs.declared.entry.InitialState.{InitialState}
 use Rattle.nr_shared.specs.declared.entry.Stop.{Stop}
 use Rattle.nr_shared.specs.declared.entry.Stop.TheVariants as causes
 use Rattle.nr_shared.specs.declared.source_reader.InitialSource.{InitialSource}
@@ -20,7 +21,7 @@ use Rattle.nr_shared.specs.Histories.{FeedsInOrder, PresentLink, bytes_fed, clos
 use Rattle.nr_shared.specs.Numbered.{IsBegun}
 use Rattle.nr_shared.specs.Opening.{GivesBack, GivesLink}
 use Rattle.nr_shared.specs.Standing.{KeepsSinkIf, KeepsSinkOf, RepresentsHistory, Stands}
-use Rattle.nr_shared.specs.private.Reading.{read_part}
+use Rattle.nr_shared.specs.private.Reading.{both, read_part}
 use Rattle.nr_shared.proofs.Adding.{begins_then}
 use Rattle.nr_shared.proofs.Alone.{AreQuiet, bytes_quiet, part_quiet}
 use Rattle.nr_shared.proofs.Chains.{no_link_after}
@@ -30,6 +31,7 @@ use Rattle.nr_requester.specs.RequesterState.{RequesterSide}
 use Rattle.nr_shared.proofs.Lists.{at_after, at_begin, in_ordered, not_twice, still_first, still_ordered}
 use Rattle.nr_shared.proofs.Opened.{dialer_begun, source_begun}
 use Rattle.nr_shared.proofs.Resting.{seen_one}
+use Rattle.nr_shared.proofs.Told.{IsTold, tries_told}
 use Rattle.nr_reduce.specs.declared.call.Call.{Call}
 use Rattle.nr_reduce.specs.declared.call.Form.{Form}
 
@@ -62,11 +64,6 @@ module _ {O C : Type 0} where
 -- a history that begins with one entry and has one has that entry
 pub same_initial_source : {A : Type 0} (b c : A) (p q : List A) → p ≡ b ∷ [] → q ≡ c ∷ [] → Begins p q → c ≡ b
 same_initial_source b c p q one two begins = some-injective c b (ap (λ l. get_elem? l 0) (sym two ∙ (seen_one p q b c one two begins ∙ one)))
-
--- both halves of a link, if they are there
-abbrev pub both : {I O : Type 0} → Option I → Option O → Option (I × O)
-both (Some source) (Some sink) = Some (source, sink)
-both source sink = None
 
 module _ {I O : Type 0} (link : I → ℕ) (left given : I → Option (List ℕ)) (source_faults : I → ℕ) (sink_link : O → ℕ) (taken : O → Option (List ℕ)) (sink_faults : O → ℕ) where
   gives_if : (numbered : Bool) (shared : InitialGiving) (o : Option I) (k : Option O) (i : Option InitialSink) (read : ℕ) (h : List Entry) → KeepsSourceIf link left given source_faults numbered shared o i read (present h) → KeepsSinkIf sink_link taken sink_faults k i (present h)
@@ -180,3 +177,36 @@ back_by link left given source_faults sink_link taken sink_faults ended dialer_f
   link_is = b.link_is;
   dialer_is = b.dialer_is;
 }
+
+-- ---- A link that came back
+
+-- it has both halves, unless it may be dialled again
+pub link_back : {I O D : Type 0} (link : I → ℕ) (left given : I → Option (List ℕ)) (source_faults : I → ℕ) (sink_link : O → ℕ) (taken : O → Option (List ℕ)) (sink_faults : O → ℕ) (ended : D → Option LinkLog) (dialer_faults : D → ℕ) (allows : Call → Form → Type 0)
+    (history : List Entry) (mine : List ℕ) (first : I) (first_dialer : D) (read : ℕ) (r : RequesterSide) (dialer : D) → tries_of history ≡ None → (c : InitialState) → initial_of history ≡ Some c
+    → GivesBack link left given source_faults sink_link taken sink_faults ended dialer_faults allows history mine first first_dialer read r None dialer → ⊥
+link_back link left given source_faults sink_link taken sink_faults ended dialer_faults allows history mine first first_dialer read r dialer none c is b = by (sink_of b.history) b.link_is where
+  same : initial_of b.history ≡ Some c
+  same = ap (λ (l : List Entry). initial_of l) b.begins.1 ∙ initial_more history b.begins.0 c is
+
+  no_tries : b.initial.tries ≡ None
+  no_tries = ap tries_in (sym b.is_initial ∙ (same ∙ sym is)) ∙ none
+
+  by : (i : Option InitialSink) → GivesLink link left given source_faults sink_link taken sink_faults (is_some b.initial.tries) (shared_giving left given source_faults first) (read + length (bytes_fed b.history)) None i b.history → ⊥
+  by None stop = subst (λ (o : Option ℕ). IsTold o (Some causes.DialFault)) no_tries (subst (IsTold b.initial.tries) stop (tries_told b.initial b.history b.is_initial b.may_follow))
+  by (Some sink) bad = bad
+
+-- it can be hung up, if it may be dialled again
+pub back_open : {I O D : Type 0} (link : I → ℕ) (left given : I → Option (List ℕ)) (source_faults : I → ℕ) (sink_link : O → ℕ) (taken : O → Option (List ℕ)) (sink_faults : O → ℕ) (ended : D → Option LinkLog) (dialer_faults : D → ℕ) (allows : Call → Form → Type 0)
+    (history : List Entry) (mine : List ℕ) (first : I) (first_dialer : D) (read : ℕ) (r : RequesterSide) (source : I) (sink : O) (dialer : D) → is_some (tries_of history) ≡ true → (c : InitialState) → initial_of history ≡ Some c → HasOpenLink (ended first_dialer)
+    → GivesBack link left given source_faults sink_link taken sink_faults ended dialer_faults allows history mine first first_dialer read r (Some (source, sink)) dialer → (link source ≡ sink_link sink) × HasOpenLink (ended dialer)
+back_open link left given source_faults sink_link taken sink_faults ended dialer_faults allows history mine first first_dialer read r source sink dialer some c is opened b = by (sink_of b.history) refl b.link_is where
+  same : initial_of b.history ≡ Some c
+  same = ap (λ (l : List Entry). initial_of l) b.begins.1 ∙ initial_more history b.begins.0 c is
+
+  tries : is_some b.initial.tries ≡ true
+  tries = ap (λ (o : Option InitialState). is_some (tries_in o)) (sym b.is_initial ∙ (same ∙ sym is)) ∙ some
+
+  by : (i : Option InitialSink) → sink_of b.history ≡ i → GivesLink link left given source_faults sink_link taken sink_faults (is_some b.initial.tries) (shared_giving left given source_faults first) (read + length (bytes_fed b.history)) (Some (source, sink)) i b.history
+      → (link source ≡ sink_link sink) × HasOpenLink (ended dialer)
+  by None none bad = absurd bad
+  by (Some i) there (keeps, gave) = (gave.number tries ∙ sym keeps.number, b.dialer_is.open_link (ap (λ (o : Option InitialSink). is_some o) there) opened)

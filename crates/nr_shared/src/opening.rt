@@ -1,7 +1,6 @@
 //! A requester is shared, and given back.
 
 ghost use Rattle.std.specs.Prelude.{◌≡◌, ◌≢◌, ◌<◌, ◌≤◌, [], ◌∷◌, List, None, Some, IfOk, IfErr};
-ghost use Rattle.std.specs.Option.{option_map};
 ghost use Rattle.nr_outside.specs.Faults.{last_count};
 ghost use Rattle.nr_link.specs.declared.end.End.TheVariants as ends;
 ghost use Rattle.nr_links.specs.Limits.{read_max};
@@ -13,6 +12,7 @@ ghost use Rattle.nr_shared.specs.Feeding.{FeedsFor};
 ghost use Rattle.nr_shared.specs.Opening.{GivesBack, IsInitialHistory};
 ghost use Rattle.nr_shared.specs.Numbered.{IsBegun, IsNotShared, NumberedOpened, NumberedRefused};
 ghost use Rattle.nr_shared.specs.Standing.{Stands, bytes_before};
+ghost use Rattle.nr_shared.specs.private.Reading.{both};
 ghost use Rattle.nr_shared.specs.declared.no_dialer.NoDialer.{NoDialer};
 ghost use Rattle.nr_shared.specs.Sharing.{SharedRests};
 
@@ -129,9 +129,16 @@ fn take_back<
         sink,
         ..
     } = main.close(rt, caller);
+    (requester, both_halves(source, sink), dialer)
+}
+
+/// Both halves of a link, if they are there.
+fn both_halves<I: Drop, O: Drop>(source: Option<I>, sink: Option<O>) -> Option<(I, O)>
+    ensures { result ≡ both source sink }
+{
     match (source, sink) {
-        (Some(source), Some(sink)) => (requester, Some((source, sink)), dialer),
-        _ => (requester, None, dialer),
+        (Some(source), Some(sink)) => Some((source, sink)),
+        _ => None,
     }
 }
 
@@ -201,7 +208,7 @@ fn given_back<I: Drop, O: LinkSink + Drop, C: CallRule, D>(
     dialer: D,
 ) -> (Requester, Option<(I, O)>, D)
     ensures requester { result.0 ≡ with_sink.requester }
-    ensures link { result.1 ≡ option_map (λ sink. (source, sink)) with_sink.sink }
+    ensures link { result.1 ≡ both (Some source) with_sink.sink }
     ensures dialer { result.2 ≡ dialer }
 {
     let RequesterWithSink {
@@ -209,10 +216,7 @@ fn given_back<I: Drop, O: LinkSink + Drop, C: CallRule, D>(
         sink,
         ..
     } = with_sink;
-    match sink {
-        Some(sink) => (requester, Some((source, sink)), dialer),
-        None => (requester, None, dialer),
-    }
+    (requester, both_halves(Some(source), sink), dialer)
 }
 
 /// Why a requester with a number isn't shared.

@@ -9,7 +9,7 @@ ghost use Rattle.nr_shared.specs.declared.source_reader.InitialSource.{InitialSo
 ghost use Rattle.nr_shared.specs.Callers.{IsFeeding};
 ghost use Rattle.nr_shared.specs.Draining.{fed_entry};
 ghost use Rattle.nr_shared.specs.Feeding.{FeedsFor};
-ghost use Rattle.nr_shared.specs.Histories.{bytes_fed, present, present_after, stop_of};
+ghost use Rattle.nr_shared.specs.Histories.{bytes_fed, present, present_after, stop_of, tries_of};
 ghost use Rattle.nr_shared.specs.private.Reading.{IsReadEnd, read_part};
 ghost use Rattle.nr_shared.specs.Output.{IsCallOutstanding, MayFeed};
 
@@ -121,6 +121,7 @@ impl<
         ensures lies { Lies (seen_by feeding.new) (mine_of feeding.new) }
         ensures fed { bytes_fed (seen_by feeding.new) ≡ bytes_fed (seen_by feeding.old) ++ piece.now }
         ensures present { read_part (present (seen_by feeding.new)) ≡ present_after (read_part (present (seen_by feeding.old))) (fed_entry result piece.now 0) }
+        ensures tries { tries_of (seen_by feeding.new) ≡ tries_of (seen_by feeding.old) }
     {
         let mut turn = self.main.take_turn(rt, feeding);
         drain_under(&mut turn);
@@ -143,6 +144,7 @@ impl<
         ensures lies { Lies (seen_by feeding.new) (mine_of feeding.new) }
         ensures fed { bytes_fed (seen_by feeding.new) ≡ bytes_fed (seen_by feeding.old) }
         ensures present { read_part (present (seen_by feeding.new)) ≡ present_after (read_part (present (seen_by feeding.old))) (entries.Stopped cause 0) }
+        ensures tries { tries_of (seen_by feeding.new) ≡ tries_of (seen_by feeding.old) }
     {
         let mut turn = self.main.take_turn(rt, feeding);
         stop_under(&mut turn, cause);

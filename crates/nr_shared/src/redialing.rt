@@ -77,13 +77,13 @@ fn next_link<I: LinkSource + Drop, O: LinkSink + Drop, D: Dialer<Source = I, Sin
     }
 }
 
-/// Why no more is fed over the next link: its dial failed, if it has no sink.
-fn stop_after_dial<O: LinkSink>(sink: &Option<O>) -> Option<Stop>
+/// Why no more is fed over a link whose dial made this sink, or none.
+fn stop_of_dial<O: LinkSink>(sink: &Option<O>) -> Option<Stop>
     ensures { result ≡ stopped_by_dial (initial_sink O.link O.taken O.faults sink.now) }
 {
     match sink {
-        None => Some(Stop::DialFault),
         Some(_) => None,
+        None => Some(Stop::DialFault),
     }
 }
 
@@ -109,7 +109,7 @@ impl<O: LinkSink + Drop, C: CallRule> RequesterWithSink<O, C> {
         next_link(source, &mut self.sink, dialer, addr);
         self.rejoined += 1;
         self.write_failed = false;
-        self.stopped = stop_after_dial(&self.sink);
+        self.stopped = stop_of_dial(&self.sink);
         self.pending = true;
         self.entries += 1;
         Ok(())

@@ -1,5 +1,5 @@
 -- What the pass that feeds does with the source and the dialer of a link.
-use Rattle.std.specs.Prelude.{◌≡◌, ⊤, ◌⊎◌, ℕ, false, List, [], Option, None}
+use Rattle.std.specs.Prelude.{◌≡◌, ⊤, ◌⊎◌, ℕ, false, List, [], Option, None, Some}
 use Rattle.nr_links.specs.Links.{LinkLog}
 use Rattle.nr_reduce.specs.declared.call.Refused.{Refused}
 use Rattle.nr_reduce.specs.declared.call.Refused.TheVariants as refusals
@@ -30,6 +30,11 @@ cause_of_refusal why = causes.NotReopened
 -- what the history tells of the link at hand, but for what is written
 abbrev pub read_part : PresentLink → PresentLink
 read_part l = record l { written = []; write_failed = false }
+
+-- both halves of a link, if they are there
+abbrev pub both : {I O : Type 0} → Option I → Option O → Option (I × O)
+both (Some source) (Some sink) = Some (source, sink)
+both source sink = None
 
 -- The pass has seen the same, and the source and the dialer are as they were.
 abbrev pub IsUnmoved : {I O C D : Type 0} → Pass (RequesterWithSink O C) Entry → Pass (RequesterWithSink O C) Entry → Option I → Option I → D → D → Type 0
