@@ -162,7 +162,7 @@ module _ (next : LinkParameters) (r s : RequesterState) (outstanding : s.outstan
   answered_not : (is : HasOwnCalls (next_own r) s) → s.next_xid ≡ r.next_xid → (xid : ℕ) → next_own r xid ≡ false → carries next xid ≡ false
   answered_not own same xid kept =
       let apart : AllByRecursion (λ (c : ResumedCall). c.xid ≢ xid) next.resumed = resumed_xids (λ (x : ℕ). x ≢ xid) 0 next.first_stag next.resumed
-          (subst (AllByRecursion (λ (k : KeptCall). k.xid ≢ xid)) these (kept_xids (λ (x : ℕ). x ≢ xid) s.outstanding (each s.outstanding own.outstanding))) in
+      (subst (AllByRecursion (λ (k : KeptCall). k.xid ≢ xid)) these (kept_xids (λ (x : ℕ). x ≢ xid) s.outstanding (each s.outstanding own.outstanding))) in
       λ i. none_any xid next.resumed apart i || not (below i)
     where
       each : (cs : List StoredCall) → AllByRecursion (λ (c : StoredCall). next_own r c.xid ≡ true) cs → AllByRecursion (λ (c : StoredCall). c.xid ≢ xid) cs
