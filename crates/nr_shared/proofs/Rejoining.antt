@@ -1,5 +1,6 @@
 -- The value stands on with a lost link that is left, and with the next one.
-use Rattle.std.proofs.Common.{◌≡◌, ◌≢◌, ℕ, suc, ◌+◌, ◌-◌, ◌<◌, ◌≤◌, arith, eqb, ltb, cond, Bool, true, false, not, ◌||◌, ◌&&◌, if◌then◌else◌, List, [], ◌∷◌, ◌++◌, length, length-append, map, Option, Some, None, is_some, refl, sym, ap, subst, ◌∙◌, append-nil}
+use Rattle.std.proofs.Common.{◌≡◌, ◌≢◌, ◌⊎◌, ⊎_elim, ℕ, suc, ◌+◌, ◌-◌, ◌<◌, ◌≤◌, arith, eqb, ltb, cond, Bool, true, false, not, ◌||◌, ◌&&◌, if◌then◌else◌, List, [], ◌∷◌, ◌++◌, length, length-append, map, Option, Some, None, is_some, refl, sym, ap, subst, ◌∙◌, append-nil}
+use Rattle.std.specs.Prelude.{⊤}
 use Rattle.std.specs.List.{AllByRecursion, filter, find, list_any}
 use Rattle.std.specs.Io.KnownBytes.{Appends}
 use Rattle.std.proofs.KnownBytes.{Appends-nil}
@@ -45,8 +46,11 @@ use Rattle.nr_shared.specs.Draining.{initial_sink}
 use Rattle.nr_shared.specs.Histories.{PresentLink, bytes_fed, closes_of, is_feeding, is_lost_by, last_feeding, present, present_after, rejoins, stop_of, stopped_by_dial, tries_in, tries_of}
 use Rattle.nr_shared.specs.LinkRuns.{LinkRun, OpenedLink, call_link, carries, is_of, last_carrier, links_of, next_link}
 use Rattle.nr_shared.specs.LinkStanding.{IsLeft, IsLiveOn, KeepsLinkLaw}
-use Rattle.nr_shared.specs.Output.{IsTryLeft, MayRejoin, MayStop}
-use Rattle.nr_shared.specs.Standing.{IsWithin, KeepsSinkIf, KeepsSinkOf, RejoinsWithin, RepresentsHistory, RepresentsHistoryIf, Stands, is_out_of_memory, one_if, stops_told, tries_max}
+use Rattle.nr_shared.specs.Output.{IsTryLeft, MayFeed, MayRejoin, MayStop}
+use Rattle.nr_shared.specs.Dialing.{CannotReopen}
+use Rattle.nr_shared.specs.private.Needs.{GoesOn}
+use Rattle.nr_shared.specs.private.Reading.{cause_of_refusal}
+use Rattle.nr_shared.specs.Standing.{IsNumbered, IsWithin, KeepsSinkIf, KeepsSinkOf, RejoinsWithin, RepresentsHistory, RepresentsHistoryIf, Stands, is_out_of_memory, one_if, stops_told, tries_max}
 use Rattle.nr_shared.proofs.Calls.{calls_kept, closes_end}
 use Rattle.nr_shared.proofs.Chains.{chained_end}
 use Rattle.nr_shared.proofs.Histories.{allowed_end, fed_same, initial_end, present_end, rejoins_grow}
@@ -158,7 +162,7 @@ module _ (next : LinkParameters) (r s : RequesterState) (outstanding : s.outstan
   answered_not : (is : HasOwnCalls (next_own r) s) → s.next_xid ≡ r.next_xid → (xid : ℕ) → next_own r xid ≡ false → carries next xid ≡ false
   answered_not own same xid kept =
       let apart : AllByRecursion (λ (c : ResumedCall). c.xid ≢ xid) next.resumed = resumed_xids (λ (x : ℕ). x ≢ xid) 0 next.first_stag next.resumed
-          (subst (AllByRecursion (λ (k : KeptCall). k.xid ≢ xid)) these (kept_xids (λ (x : ℕ). x ≢ xid) s.outstanding (each s.outstanding own.outstanding))) in
+      (subst (AllByRecursion (λ (k : KeptCall). k.xid ≢ xid)) these (kept_xids (λ (x : ℕ). x ≢ xid) s.outstanding (each s.outstanding own.outstanding))) in
       λ i. none_any xid next.resumed apart i || not (below i)
     where
       each : (cs : List StoredCall) → AllByRecursion (λ (c : StoredCall). next_own r c.xid ≡ true) cs → AllByRecursion (λ (c : StoredCall). c.xid ≢ xid) cs
@@ -478,6 +482,23 @@ module _ {O C : Type 0} (link : O → ℕ) (taken : O → Option (List ℕ)) (fa
             (within_rejoin m.requester m'.requester m.pending m.write_failed m.stopped m'.stopped h e lost (fed_same h e refl) more few.1 j.keeps (reopened_next m.requester m'.requester re.staging re.after) j.fed st.within));
       }
 
+  -- a link that isn't lost, over which more is fed, may be read
+  pub may_feed : (m : RequesterWithSink O C) (h : List Entry) → GoesOn m → is_lost_by m.write_failed m.stopped ≡ false → 0 < length m.requester.state.outstanding → Stands link taken faults allows m h → MayFeed h
+  may_feed m h goes whole some st = (sym st.stopped ∙ none, outstanding_is link taken faults allows m h (ap is_out_of_memory none) some st) where
+    none : m.stopped ≡ None
+    none = ⊎_elim (λ (e : m.stopped ≡ None). e) (λ (lost : is_lost_by m.write_failed m.stopped ≡ true). absurd (true_false (sym lost ∙ whole))) goes.no_other
+
+  -- the requester of a lost link that may be left has a client number
+  pub has_number : (m : RequesterWithSink O C) (h : List Entry) → MayRejoin h → Stands link taken faults allows m h → 0 < m.requester.state.side.terms.number
+  has_number m h may st = by st.initial.tries (subst (λ (o : Option ℕ). IsTryLeft o (rejoins h)) (tries_are m h st) may.try_left) st.numbered where
+    by : (o : Option ℕ) → IsTryLeft o (rejoins h) → IsNumbered o m.requester.state → 0 < m.requester.state.side.terms.number
+    by (Some tries) left number = number
+    by None left number = absurd left
+
+  -- it was left less than so often
+  pub rejoined_few : (m : RequesterWithSink O C) (h : List Entry) → Stands link taken faults allows m h → m.rejoined ≤ tries_max
+  rejoined_few m h st = (let few = st.within.few in let is = st.rejoined in omega (arith, few, is))
+
 -- ---- It can't be left
 
 spent_live : (r : RequesterState) (o : Option End) (left need : ℕ) → reopen_refusal_by r o ≡ Some (refusals.Spent left need) → o ≡ None
@@ -513,6 +534,10 @@ spent_says : (r : RequesterState) (left need : ℕ) → reopen_refusal r ≡ Som
 unfolding reopen_refusal
 spent_says r left need is = (spent_live r r.side.ended left need is, refusal_spent r r.side.ended left need is)
 
+abbrev NotMemory : Refused → Type 0
+NotMemory refusals.Memory = ⊥
+NotMemory why = ⊤
+
 first_stag : (opened : LinkParameters) (link : ℕ) (run : List Mark) → (reopened opened link run).first_stag ≡ (client opened link run).state.stag
 unfolding reopened
 first_stag opened link run = refl
@@ -536,3 +561,20 @@ module _ {O C : Type 0} (link : O → ℕ) (taken : O → Option (List ℕ)) (fa
               (says.1.1.0 ∙ ap (λ (n : ℕ). numbers_end - n) (sym first), next.stags ∙ (λ i. sym first i + sym says.1.1.1 i))),
         ),
       )
+
+  -- why a refusal of a reopening is told
+  pub refused_stops : (m : RequesterWithSink O C) (h : List Entry) (why : Refused) → (why ≢ refusals.Memory → reopen_refusal m.requester.state ≡ Some why) → MayRejoin h → Stands link taken faults allows m h → MayStop (cause_of_refusal why) h
+  refused_stops m h (refusals.Spent left need) says may st = spends m h left need (says (λ same. subst NotMemory same tt)) may st
+  refused_stops m h (refusals.Ended end) says may st = may
+  refused_stops m h (refusals.TooLarge need room) says may st = may
+  refused_stops m h (refusals.NoCredit out grant) says may st = may
+  refused_stops m h (refusals.Window oldest next) says may st = may
+  refused_stops m h refusals.Memory says may st = may
+
+pub cannot_reopen : (why : Refused) → CannotReopen (cause_of_refusal why)
+cannot_reopen (refusals.Spent left need) = tt
+cannot_reopen (refusals.Ended end) = tt
+cannot_reopen (refusals.TooLarge need room) = tt
+cannot_reopen (refusals.NoCredit out grant) = tt
+cannot_reopen (refusals.Window oldest next) = tt
+cannot_reopen refusals.Memory = tt

@@ -228,7 +228,12 @@ pub enum NotShared<D> {
     Memory(Requester, D),
 }
 
-impl<I: LinkSource + Drop, O: LinkSink + Drop, C: CallRule> SharedRequester<I, O, C, NoDialer<I, O>> {
+impl<I: LinkSource + Drop, O: LinkSink + Drop, C: CallRule> SharedRequester<
+    I,
+    O,
+    C,
+    NoDialer<I, O>,
+> {
     /// Lets callers share a requester with its source and its sink. `H` names the history that it begins with, whose
     /// one entry is the initial state. `read` is how many bytes of the source were read before: callers read what is left to the maximum. The pass
     /// has seen this history, and nothing is its own. A lost link isn't dialled again. After out of memory all three come back.
@@ -240,7 +245,10 @@ impl<I: LinkSource + Drop, O: LinkSink + Drop, C: CallRule> SharedRequester<I, O
         sink: O,
         read: u64,
     ) -> Result<
-        (SharedRequester<I, O, C, NoDialer<I, O>>, Pass<I, O, C, NoDialer<I, O>>),
+        (
+            SharedRequester<I, O, C, NoDialer<I, O>>,
+            Pass<I, O, C, NoDialer<I, O>>,
+        ),
         (Requester, I, O),
     >
         requires initial { IsInitialHistory O.link O.taken O.faults requester sink None H.history }
@@ -295,9 +303,7 @@ fn share_dialled<
     ensures err { IfErr result (NumberedRefused I.link I.left I.given I.faults O.link O.taken O.faults D.ended D.faults C.allows (K.entry ∷ []) source dialer) }
 {
     let with_sink = RequesterWithSink::of_parts(requester, sink, Some(tries));
-    match share::<InitialHistory<K>, R, I, O, C, D>(
-        rt, alloc, with_sink, source, dialer, addr, 0,
-    ) {
+    match share::<InitialHistory<K>, R, I, O, C, D>(rt, alloc, with_sink, source, dialer, addr, 0) {
         Ok(opened) => Ok(opened),
         Err((requester, link, mut dialer)) => {
             if let Some((source, sink)) = link {

@@ -122,12 +122,7 @@ fn redial_under<
     O: LinkSink + Drop,
     C: CallRule,
     D: Dialer<Source = I, Sink = O>,
->(
-    turn: &mut MainTurn<'_, O, C>,
-    source: &mut Option<I>,
-    dialer: &mut D,
-    addr: &str,
-)
+>(turn: &mut MainTurn<'_, O, C>, source: &mut Option<I>, dialer: &mut D, addr: &str)
     requires ready { IsReady O.link O.taken O.faults C.allows turn.old }
     requires feeding { IsFeeding (pass_of turn.old) }
     requires may { MayRejoin (seen_by (pass_of turn.old)) }

@@ -44,12 +44,8 @@ pub struct InitialSource<I, O: LinkSink, C: CallRule, D> {
     pub read: u64,
 }
 
-impl<I: LinkSource, O: LinkSink, C: CallRule, D: Dialer<Source = I, Sink = O>> Machine for SourceReader<
-    I,
-    O,
-    C,
-    D,
-> {
+impl<I: LinkSource, O: LinkSink, C: CallRule, D: Dialer<Source = I, Sink = O>> Machine
+    for SourceReader<I, O, C, D> {
     ghost use Rattle.nr_shared.specs.Feeding.{Feeds, closes_none};
 
     type Entry = InitialSource<I, O, C, D>;
@@ -99,11 +95,7 @@ pub(crate) fn read_piece<I: LinkSource>(
 
 /// One read, of at most `room` bytes, into the front of the buffer.
 #[tactic(auto, using(std::proofs::lemmas::Grind::common_steps))]
-fn read_part<I: LinkSource>(
-    source: &mut I,
-    buf: &mut [u8],
-    room: usize,
-) -> Result<usize, Failed>
+fn read_part<I: LinkSource>(source: &mut I, buf: &mut [u8], room: usize) -> Result<usize, Failed>
     requires { room ≤ length buf.old }
     ensures len { length buf.new ≡ length buf.old }
     ensures link { I.link source.new ≡ I.link source.old }

@@ -98,7 +98,10 @@ pub(crate) fn try_take_under<O: LinkSink + Drop, C: CallRule>(
 }
 
 /// Forgets a call of the pass's own.
-pub(crate) fn forget_under<O: LinkSink + Drop, C: CallRule>(turn: &mut MainTurn<'_, O, C>, ticket: Ticket)
+pub(crate) fn forget_under<O: LinkSink + Drop, C: CallRule>(
+    turn: &mut MainTurn<'_, O, C>,
+    ticket: Ticket,
+)
     requires ready { IsReady O.link O.taken O.faults C.allows turn.old }
     requires has_call { HasOpenCall (pass_of turn.old) ticket }
     ensures same { IsSameTurn turn.old turn.new }
@@ -178,7 +181,10 @@ pub(crate) fn feed_under<O: LinkSink + Drop, C: CallRule>(
 }
 
 /// No more is fed over the link at hand.
-pub(crate) fn stop_under<O: LinkSink + Drop, C: CallRule>(turn: &mut MainTurn<'_, O, C>, cause: Stop)
+pub(crate) fn stop_under<O: LinkSink + Drop, C: CallRule>(
+    turn: &mut MainTurn<'_, O, C>,
+    cause: Stop,
+)
     requires ready { IsReady O.link O.taken O.faults C.allows turn.old }
     requires feeding { IsFeeding (pass_of turn.old) }
     requires cause { cause ≢ causes.Memory }

@@ -26,8 +26,8 @@ share_reader-requires-clause-feeds g c =
     let seen : seen_by p ≡ history = ap (λ x. x.0.seen) u.1 ∙ ap (λ v. v.seen) m.1 in
     let mine : mine_of p ≡ places (length history) = ap (λ x. x.0.mine) u.1 ∙ ap (λ v. v.mine) m.1 in
     let begun : IsBegun g.I.LinkSource.link g.D.Dialer.ended history c.of-first_source.result.value c.of-first_dialer.result.value =
-        subst (λ (d : g.row.D.Denot). IsBegun g.I.LinkSource.link g.D.Dialer.ended history c.of-first_source.result.value d) (sym c.of-first_dialer.ensures)
-        (subst (λ (i : g.row.I.Denot). IsBegun g.I.LinkSource.link g.D.Dialer.ended history i c.args.dialer) (sym c.of-first_source.ensures) c.requires.begun) in
+    subst (λ (d : g.row.D.Denot). IsBegun g.I.LinkSource.link g.D.Dialer.ended history c.of-first_source.result.value d) (sym c.of-first_dialer.ensures)
+    (subst (λ (i : g.row.I.Denot). IsBegun g.I.LinkSource.link g.D.Dialer.ended history i c.args.dialer) (sym c.of-first_source.ensures) c.requires.begun) in
     first_reader g.I.LinkSource.link g.I.Source.left g.I.Source.given g.I.Source.faults g.D.Dialer.ended g.D.Dialer.faults _ _ history (ap home_of (sym c.of-first.ensures)) (ap (λ x. x.1) u.1 ∙ m.0.1, ap (λ x. x.0.stage) u.1 ∙ m.0.2)
     (first_lies history p seen mine) (first_feeds g.I.LinkSource.link g.D.Dialer.ended history c.args.source c.args.dialer p c.requires.begun seen mine) seen begun
     (ap Some (sym c.of-first_source.ensures)) (sym c.of-first_dialer.ensures) refl c.requires.read (sym c.in-Ok.buf.ok.0 ∙ c.in-Ok.ensures.len)

@@ -1,8 +1,8 @@
 use Rattle.std.proofs.Common.{Some, Err, refl, sym, ap, take, ◌∙◌}
 use Rattle.nr_link.specs.declared.end.End.TheVariants as ends
-use Rattle.nr_requester.specs.RequesterState.{RequesterSide, RequesterState, feeding_of}
+use Rattle.nr_requester.specs.RequesterState.{RequesterState, feeding_of}
 use Rattle.nr_shared.proofs.Calls.{none_some}
-use Rattle.nr_shared.proofs.NextXid.{next_feed, next_piece}
+use Rattle.nr_shared.proofs.NextXid.{next_piece}
 use Rattle.nr_shared.proofs.Pieces.{end_not_out, err_not_out, feeds, feeds_out, going, ok_not_out, was_live}
 use Rattle.nr_shared.proofs.requester_with_sink.RequesterWithSink.feed.Goals as goal
 
