@@ -28,6 +28,7 @@ use Rattle.nr_shared.specs.Feeding.{Feeds, FeedsFor, HungUp, InitialGiving, Keep
 use Rattle.nr_shared.specs.Histories.{PastLink, PresentLink, bytes_fed, fed_by, initial_of, is_lost, is_lost_by, is_read_fault, present, present_after, stop_of, tries_in, tries_of}
 use Rattle.nr_shared.specs.Standing.{KeepsSinkIf, KeepsSinkOf}
 use Rattle.nr_shared.specs.private.Reading.{IsReadEnd, read_part}
+use Rattle.nr_shared.proofs.Alone.{tries_more}
 use Rattle.nr_shared.proofs.Histories.{present_end}
 use Rattle.nr_shared.proofs.Moving.{rises_from}
 
@@ -261,91 +262,78 @@ module _ {I O D : Type 0} (link : I → ℕ) (left given : I → Option (List �
 -- ---- The reader
 
 module _ {I O C D : Type 0} (link : I → ℕ) (left given : I → Option (List ℕ)) (faults : I → ℕ) (ended : D → Option LinkLog) (dialer_faults : D → ℕ) where
-  -- what the pass is after it fed, or another turn
-  pub record PassOn (s t : SourceReader I O C D) : Type 0 where
-    pub home : home_of t.pass ≡ home_of s.pass
-    pub outside : IsOutside t.pass
-    pub lies : Lies (seen_by t.pass) (mine_of t.pass)
-    pub feeding : IsFeeding t.pass
-    pub tries : tries_of (seen_by t.pass) ≡ tries_of (seen_by s.pass)
+  -- what a source and a dialer are after a history: since they were shared so
+  pub record Reads (b : InitialSource I O C D) (source : Option I) (dialer : D) (read : ℕ) (h : List Entry) : Type 0 where
+    pub source_is : KeepsSourceOf link left given faults (is_some (tries_of h)) (shared_giving left given faults b.source.value) source read (present h)
+    pub dialer_is : KeepsDialer ended dialer_faults (shared_giving left given faults b.source.value) b.dialer.value dialer (present h)
+    pub open_link : is_some (tries_of h) ≡ true → HasOpenLink (ended b.dialer.value)
+    pub read_is : read ≡ b.read + length (bytes_fed h)
+    pub within : read ≤ read_max
 
-  -- it has taken a turn
-  pub feeds_turned : (b : InitialSource I O C D) (s t : SourceReader I O C D) → FeedsFor link left given faults ended dialer_faults b s → PassOn s t → t.source ≡ s.source → t.dialer ≡ s.dialer → t.read ≡ s.read → t.buf ≡ s.buf
-      → bytes_fed (seen_by t.pass) ≡ bytes_fed (seen_by s.pass) → read_part (present (seen_by t.pass)) ≡ read_part (present (seen_by s.pass)) → FeedsFor link left given faults ended dialer_faults b t
-  feeds_turned b s t f on source dialer read buf bytes part = record {
-    home = on.home ∙ f.home;
-    outside = on.outside;
-    lies = on.lies;
-    feeding = on.feeding;
-    source = (let shared = shared_giving left given faults b.source.value in
-        subst (λ (x : Bool). KeepsSourceOf link left given faults x shared t.source t.read (present (seen_by t.pass))) (ap (λ (o : Option ℕ). is_some o) (sym on.tries))
-        (subst (λ (o : Option I). KeepsSourceOf link left given faults (is_some (tries_of (seen_by s.pass))) shared o t.read (present (seen_by t.pass))) (sym source)
-        (subst (λ (n : ℕ). KeepsSourceOf link left given faults (is_some (tries_of (seen_by s.pass))) shared s.source n (present (seen_by t.pass))) (sym read)
-        (source_same link left given faults (is_some (tries_of (seen_by s.pass))) shared s.source s.read (present (seen_by s.pass)) (present (seen_by t.pass)) part f.source))));
-    dialer = (let shared = shared_giving left given faults b.source.value in
-        subst (λ (d : D). KeepsDialer ended dialer_faults shared b.dialer.value d (present (seen_by t.pass))) (sym dialer) (dialer_same ended dialer_faults shared b.dialer.value s.dialer (present (seen_by s.pass)) (present (seen_by t.pass)) part f.dialer));
-    open_link = λ some. f.open_link (ap (λ (o : Option ℕ). is_some o) (sym on.tries) ∙ some);
-    read = read ∙ (f.read ∙ ap (λ (l : List ℕ). b.read + length l) (sym bytes));
-    within = (let w = f.within in omega (arith, w, read));
-    room = ap (λ x. length x.items) buf ∙ f.room;
-  }
+  pub of_feeds : (b : InitialSource I O C D) (s : SourceReader I O C D) → FeedsFor link left given faults ended dialer_faults b s → Reads b s.source s.dialer s.read (seen_by s.pass)
+  of_feeds b s f = record { source_is = f.source; dialer_is = f.dialer; open_link = f.open_link; read_is = f.read; within = f.within }
+
+  pub to_feeds : (b : InitialSource I O C D) (s : SourceReader I O C D) → home_of s.pass ≡ home_of b.pass.value → IsOutside s.pass → Lies (seen_by s.pass) (mine_of s.pass) → IsFeeding s.pass → length s.buf.items ≡ piece_max → Reads b s.source s.dialer s.read (seen_by s.pass)
+      → FeedsFor link left given faults ended dialer_faults b s
+  to_feeds b s home outside lies feeding room r = record { home = home; outside = outside; lies = lies; feeding = feeding; source = r.source_is; dialer = r.dialer_is; open_link = r.open_link; read = r.read_is; within = r.within; room = room }
+
+  -- entries that tell nothing of the link at hand but what is written
+  pub reads_turned : (b : InitialSource I O C D) (source : Option I) (dialer : D) (read : ℕ) (h k : List Entry) → Reads b source dialer read h → tries_of k ≡ tries_of h → bytes_fed k ≡ bytes_fed h → read_part (present k) ≡ read_part (present h) → Reads b source dialer read k
+  reads_turned b source dialer read h k r tries bytes part =
+      let shared = shared_giving left given faults b.source.value in
+      record {
+        source_is = subst (λ (x : Bool). KeepsSourceOf link left given faults x shared source read (present k)) (ap (λ (o : Option ℕ). is_some o) (sym tries))
+            (source_same link left given faults (is_some (tries_of h)) shared source read (present h) (present k) part r.source_is);
+        dialer_is = dialer_same ended dialer_faults shared b.dialer.value dialer (present h) (present k) part r.dialer_is;
+        open_link = λ some. r.open_link (ap (λ (o : Option ℕ). is_some o) (sym tries) ∙ some);
+        read_is = r.read_is ∙ ap (λ (l : List ℕ). b.read + length l) (sym bytes);
+        within = r.within;
+      }
 
   -- a piece was read and fed
-  pub feeds_more : (b : InitialSource I O C D) (s t : SourceReader I O C D) (source source' : I) (piece : List ℕ) (out : Bool) → FeedsFor link left given faults ended dialer_faults b s → PassOn s t → s.source ≡ Some source → t.source ≡ Some source' → t.dialer ≡ s.dialer
-      → HandsOut (left source) (given source) (left source') (given source') piece → link source' ≡ link source → faults source' ≡ faults source → (present (seen_by s.pass)).stopped ≡ None → t.read ≡ s.read + length piece → t.read ≤ read_max → length t.buf.items ≡ piece_max
-      → bytes_fed (seen_by t.pass) ≡ bytes_fed (seen_by s.pass) ++ piece → read_part (present (seen_by t.pass)) ≡ present_after (read_part (present (seen_by s.pass))) (fed_entry out piece 0) → FeedsFor link left given faults ended dialer_faults b t
-  feeds_more b s t source source' piece out f on was is dialer gave number same goes read within room bytes part = record {
-    home = on.home ∙ f.home;
-    outside = on.outside;
-    lies = on.lies;
-    feeding = on.feeding;
-    source = (let shared = shared_giving left given faults b.source.value in let x = is_some (tries_of (seen_by s.pass)) in let l = read_part (present (seen_by s.pass)) in
-        subst (λ (z : Bool). KeepsSourceOf link left given faults z shared t.source t.read (present (seen_by t.pass))) (ap (λ (o : Option ℕ). is_some o) (sym on.tries))
-        (subst (λ (o : Option I). KeepsSourceOf link left given faults x shared o t.read (present (seen_by t.pass))) (sym is)
-        (by_part link left given faults x shared (Some source') t.read (present (seen_by t.pass)) (present_after l (fed_entry out piece 0)) part
-        (piece_of shared x out l goes (subst (λ (o : Option I). KeepsSourceIf link left given faults x shared o l.sink s.read l) was (to_part link left given faults x shared s.source l.sink s.read (present (seen_by s.pass)) f.source))))));
-    dialer = (let shared = shared_giving left given faults b.source.value in let l = present (seen_by s.pass) in
-        subst (λ (d : D). KeepsDialer ended dialer_faults shared b.dialer.value d (present (seen_by t.pass))) (sym dialer)
-        (dialer_of ended dialer_faults shared b.dialer.value s.dialer (present (seen_by t.pass)) (subst (λ (m : PresentLink). KeepsDialer ended dialer_faults shared b.dialer.value s.dialer m) (sym part)
-        (dialer_piece shared out (read_part l) goes (dialer_to ended dialer_faults shared b.dialer.value s.dialer l f.dialer)))));
-    open_link = λ some. f.open_link (ap (λ (o : Option ℕ). is_some o) (sym on.tries) ∙ some);
-    read = (let r = f.read in let len = ap length bytes ∙ length-append (bytes_fed (seen_by s.pass)) piece in omega (arith, r, read, len));
-    within = within;
-    room = room;
-  } where
-    piece_of : (shared : InitialGiving) (x o : Bool) (l : PresentLink) → l.stopped ≡ None → KeepsSourceOf link left given faults x shared (Some source) s.read l → KeepsSourceOf link left given faults x shared (Some source') t.read (present_after l (fed_entry o piece 0))
-    piece_of shared x true l none k = piece_if link left given faults x shared source source' l.sink s.read t.read l piece true gave number same none k
-    piece_of shared x false l none k = piece_if link left given faults x shared source source' l.sink s.read t.read l piece false gave number same none k
+  pub reads_more : (b : InitialSource I O C D) (source source' : I) (dialer : D) (read read' : ℕ) (h k : List Entry) (piece : List ℕ) (out : Bool) → Reads b (Some source) dialer read h → tries_of k ≡ tries_of h
+      → HandsOut (left source) (given source) (left source') (given source') piece → link source' ≡ link source → faults source' ≡ faults source → (present h).stopped ≡ None → read' ≡ read + length piece → read' ≤ read_max
+      → bytes_fed k ≡ bytes_fed h ++ piece → read_part (present k) ≡ present_after (read_part (present h)) (fed_entry out piece 0) → Reads b (Some source') dialer read' k
+  reads_more b source source' dialer read read' h k piece out r tries gave number same goes more within bytes part =
+      let shared = shared_giving left given faults b.source.value in
+      let x = is_some (tries_of h) in
+      let l = read_part (present h) in
+      record {
+        source_is = subst (λ (z : Bool). KeepsSourceOf link left given faults z shared (Some source') read' (present k)) (ap (λ (o : Option ℕ). is_some o) (sym tries))
+            (by_part link left given faults x shared (Some source') read' (present k) (present_after l (fed_entry out piece 0)) part (piece_of shared x out l goes (to_part link left given faults x shared (Some source) l.sink read (present h) r.source_is)));
+        dialer_is = dialer_of ended dialer_faults shared b.dialer.value dialer (present k) (subst (λ (m : PresentLink). KeepsDialer ended dialer_faults shared b.dialer.value dialer m) (sym part)
+            (dialer_piece shared out l goes (dialer_to ended dialer_faults shared b.dialer.value dialer (present h) r.dialer_is)));
+        open_link = λ some. r.open_link (ap (λ (o : Option ℕ). is_some o) (sym tries) ∙ some);
+        read_is = (let was = r.read_is in let len = ap length bytes ∙ length-append (bytes_fed h) piece in omega (arith, was, more, len));
+        within = within;
+      } where
+    piece_of : (shared : InitialGiving) (x o : Bool) (l : PresentLink) → l.stopped ≡ None → KeepsSourceOf link left given faults x shared (Some source) read l → KeepsSourceOf link left given faults x shared (Some source') read' (present_after l (fed_entry o piece 0))
+    piece_of shared x true l none k = piece_if link left given faults x shared source source' l.sink read read' l piece true gave number same none k
+    piece_of shared x false l none k = piece_if link left given faults x shared source source' l.sink read read' l piece false gave number same none k
 
-    dialer_piece : (shared : InitialGiving) (o : Bool) (l : PresentLink) → l.stopped ≡ None → KeepsDialer ended dialer_faults shared b.dialer.value s.dialer l → KeepsDialer ended dialer_faults shared b.dialer.value s.dialer (present_after l (fed_entry o piece 0))
-    dialer_piece shared true l none k = dialer_stays ended dialer_faults shared b.dialer.value s.dialer l (present_after l (fed_entry true piece 0)) refl refl (λ e. none_some causes.DialFault (sym none ∙ e)) (none_dial true piece 0 l none) k
-    dialer_piece shared false l none k = dialer_stays ended dialer_faults shared b.dialer.value s.dialer l (present_after l (fed_entry false piece 0)) refl refl (λ e. none_some causes.DialFault (sym none ∙ e)) (none_dial false piece 0 l none) k
+    dialer_piece : (shared : InitialGiving) (o : Bool) (l : PresentLink) → l.stopped ≡ None → KeepsDialer ended dialer_faults shared b.dialer.value dialer l → KeepsDialer ended dialer_faults shared b.dialer.value dialer (present_after l (fed_entry o piece 0))
+    dialer_piece shared true l none k = dialer_stays ended dialer_faults shared b.dialer.value dialer l (present_after l (fed_entry true piece 0)) refl refl (λ e. none_some causes.DialFault (sym none ∙ e)) (none_dial true piece 0 l none) k
+    dialer_piece shared false l none k = dialer_stays ended dialer_faults shared b.dialer.value dialer l (present_after l (fed_entry false piece 0)) refl refl (λ e. none_some causes.DialFault (sym none ∙ e)) (none_dial false piece 0 l none) k
 
   -- no more is read
-  pub feeds_stopped : (b : InitialSource I O C D) (s t : SourceReader I O C D) (source source' : I) (cause : Stop) → FeedsFor link left given faults ended dialer_faults b s → PassOn s t → s.source ≡ Some source → t.source ≡ Some source' → t.dialer ≡ s.dialer
-      → HandsOut (left source) (given source) (left source') (given source') [] → link source' ≡ link source → faults source ≤ faults source' → (cause ≢ causes.LinkRead → faults source' ≡ faults source) → (present (seen_by s.pass)).stopped ≡ None → IsReadEnd cause
-      → StopHolds (Some cause) (faults source) (faults source') (left source') t.read → t.read ≡ s.read → length t.buf.items ≡ piece_max
-      → bytes_fed (seen_by t.pass) ≡ bytes_fed (seen_by s.pass) → read_part (present (seen_by t.pass)) ≡ present_after (read_part (present (seen_by s.pass))) (entries.Stopped cause 0) → FeedsFor link left given faults ended dialer_faults b t
-  feeds_stopped b s t source source' cause f on was is dialer gave number rises same goes ends holds read room bytes part = record {
-    home = on.home ∙ f.home;
-    outside = on.outside;
-    lies = on.lies;
-    feeding = on.feeding;
-    source = (let shared = shared_giving left given faults b.source.value in let x = is_some (tries_of (seen_by s.pass)) in let l = read_part (present (seen_by s.pass)) in
-        subst (λ (z : Bool). KeepsSourceOf link left given faults z shared t.source t.read (present (seen_by t.pass))) (ap (λ (o : Option ℕ). is_some o) (sym on.tries))
-        (subst (λ (o : Option I). KeepsSourceOf link left given faults x shared o t.read (present (seen_by t.pass))) (sym is)
-        (by_part link left given faults x shared (Some source') t.read (present (seen_by t.pass)) (present_after l (entries.Stopped cause 0)) part
-        (stop_of_part shared x l.sink l (subst (λ (n : ℕ). KeepsSourceIf link left given faults x shared (Some source) l.sink n l) (sym read) (subst (λ (o : Option I). KeepsSourceIf link left given faults x shared o l.sink s.read l) was (to_part link left given faults x shared s.source l.sink s.read (present (seen_by s.pass)) f.source)))))));
-    dialer = (let shared = shared_giving left given faults b.source.value in let l = present (seen_by s.pass) in
-        subst (λ (d : D). KeepsDialer ended dialer_faults shared b.dialer.value d (present (seen_by t.pass))) (sym dialer)
-        (dialer_of ended dialer_faults shared b.dialer.value s.dialer (present (seen_by t.pass)) (subst (λ (m : PresentLink). KeepsDialer ended dialer_faults shared b.dialer.value s.dialer m) (sym part)
-        (dialer_stays ended dialer_faults shared b.dialer.value s.dialer (read_part l) (present_after (read_part l) (entries.Stopped cause 0)) refl refl (λ e. none_some causes.DialFault (sym goes ∙ e)) (λ e. no_dial cause ends e)
-        (dialer_to ended dialer_faults shared b.dialer.value s.dialer l f.dialer)))));
-    open_link = λ some. f.open_link (ap (λ (o : Option ℕ). is_some o) (sym on.tries) ∙ some);
-    read = read ∙ (f.read ∙ ap (λ (l : List ℕ). b.read + length l) (sym bytes));
-    within = (let w = f.within in omega (arith, w, read));
-    room = room;
-  } where
+  pub reads_stopped : (b : InitialSource I O C D) (source source' : I) (dialer : D) (read : ℕ) (h k : List Entry) (cause : Stop) → Reads b (Some source) dialer read h → tries_of k ≡ tries_of h
+      → HandsOut (left source) (given source) (left source') (given source') [] → link source' ≡ link source → faults source ≤ faults source' → (cause ≢ causes.LinkRead → faults source' ≡ faults source) → (present h).stopped ≡ None → IsReadEnd cause
+      → StopHolds (Some cause) (faults source) (faults source') (left source') read
+      → bytes_fed k ≡ bytes_fed h → read_part (present k) ≡ present_after (read_part (present h)) (entries.Stopped cause 0) → Reads b (Some source') dialer read k
+  reads_stopped b source source' dialer read h k cause r tries gave number rises same goes ends holds bytes part =
+      let shared = shared_giving left given faults b.source.value in
+      let x = is_some (tries_of h) in
+      let l = read_part (present h) in
+      record {
+        source_is = subst (λ (z : Bool). KeepsSourceOf link left given faults z shared (Some source') read (present k)) (ap (λ (o : Option ℕ). is_some o) (sym tries))
+            (by_part link left given faults x shared (Some source') read (present k) (present_after l (entries.Stopped cause 0)) part
+            (stop_if link left given faults x shared source source' l.sink read l cause gave number rises same holds (to_part link left given faults x shared (Some source) l.sink read (present h) r.source_is)));
+        dialer_is = dialer_of ended dialer_faults shared b.dialer.value dialer (present k) (subst (λ (m : PresentLink). KeepsDialer ended dialer_faults shared b.dialer.value dialer m) (sym part)
+            (dialer_stays ended dialer_faults shared b.dialer.value dialer l (present_after l (entries.Stopped cause 0)) refl refl (λ e. none_some causes.DialFault (sym goes ∙ e)) (λ e. no_dial cause ends e) (dialer_to ended dialer_faults shared b.dialer.value dialer (present h) r.dialer_is)));
+        open_link = λ some. r.open_link (ap (λ (o : Option ℕ). is_some o) (sym tries) ∙ some);
+        read_is = r.read_is ∙ ap (λ (bs : List ℕ). b.read + length bs) (sym bytes);
+        within = r.within;
+      } where
     no_dial : (c : Stop) → IsReadEnd c → Some c ≡ Some causes.DialFault → ⊥
     no_dial causes.LinkRead end e = absurd cc
     no_dial causes.Closed end e = absurd cc
@@ -355,40 +343,25 @@ module _ {I O C D : Type 0} (link : I → ℕ) (left given : I → Option (List 
     no_dial (causes.Spent spent need) end e = end
     no_dial causes.NotReopened end e = end
 
-    stop_of_part : (shared : InitialGiving) (x : Bool) (i : Option InitialSink) (l : PresentLink) → KeepsSourceIf link left given faults x shared (Some source) i t.read l → KeepsSourceIf link left given faults x shared (Some source') i t.read (present_after l (entries.Stopped cause 0))
-    stop_of_part shared x i l k = stop_if link left given faults x shared source source' i t.read l cause gave number rises same holds k
-
   -- the requester couldn't be reopened
-  pub feeds_stays : (b : InitialSource I O C D) (s t : SourceReader I O C D) (cause : Stop) (previous : ℕ) → FeedsFor link left given faults ended dialer_faults b s → PassOn s t → t.source ≡ s.source → t.dialer ≡ s.dialer → t.read ≡ s.read → t.buf ≡ s.buf
-      → is_lost (seen_by s.pass) ≡ true → CannotReopen cause → seen_by t.pass ≡ seen_by s.pass ++ entries.Stopped cause previous ∷ [] → FeedsFor link left given faults ended dialer_faults b t
-  feeds_stays b s t cause previous f on source dialer read buf lost cannot seen = record {
-    home = on.home ∙ f.home;
-    outside = on.outside;
-    lies = on.lies;
-    feeding = on.feeding;
-    source = (let shared = shared_giving left given faults b.source.value in let x = is_some (tries_of (seen_by s.pass)) in
-        subst (λ (z : Bool). KeepsSourceOf link left given faults z shared t.source t.read (present (seen_by t.pass))) (ap (λ (o : Option ℕ). is_some o) (sym on.tries))
-        (subst (λ (o : Option I). KeepsSourceOf link left given faults x shared o t.read (present (seen_by t.pass))) (sym source)
-        (subst (λ (n : ℕ). KeepsSourceOf link left given faults x shared s.source n (present (seen_by t.pass))) (sym read)
-        (subst (λ (m : PresentLink). KeepsSourceOf link left given faults x shared s.source s.read m) (sym now) (stays_if shared x s.source l.sink f.source)))));
-    dialer = (let shared = shared_giving left given faults b.source.value in
-        subst (λ (d : D). KeepsDialer ended dialer_faults shared b.dialer.value d (present (seen_by t.pass))) (sym dialer)
-        (subst (λ (m : PresentLink). KeepsDialer ended dialer_faults shared b.dialer.value s.dialer m) (sym now)
-        (dialer_stays ended dialer_faults shared b.dialer.value s.dialer l (present_after l (entries.Stopped cause previous)) refl refl (lost_some l.write_failed l.stopped lost) (λ e. no_dial cause cannot e) f.dialer)));
-    open_link = λ some. f.open_link (ap (λ (o : Option ℕ). is_some o) (sym on.tries) ∙ some);
-    read = read ∙ (f.read ∙ ap (λ (bs : List ℕ). b.read + length bs) (sym bytes));
-    within = (let w = f.within in omega (arith, w, read));
-    room = ap (λ x. length x.items) buf ∙ f.room;
-  } where
-    l : PresentLink
-    l = present (seen_by s.pass)
-
-    now : present (seen_by t.pass) ≡ present_after l (entries.Stopped cause previous)
-    now = ap (λ (h : List Entry). present h) seen ∙ present_end (seen_by s.pass) (entries.Stopped cause previous)
-
-    bytes : bytes_fed (seen_by t.pass) ≡ bytes_fed (seen_by s.pass)
-    bytes = ap (λ (h : List Entry). bytes_fed h) seen ∙ (flat_map-append fed_by (seen_by s.pass) (entries.Stopped cause previous ∷ []) ∙ append-nil (bytes_fed (seen_by s.pass)))
-
+  pub reads_stay : (b : InitialSource I O C D) (source : Option I) (dialer : D) (read : ℕ) (h : List Entry) (c : InitialState) (cause : Stop) (previous : ℕ) → Reads b source dialer read h → initial_of h ≡ Some c → is_lost h ≡ true → CannotReopen cause
+      → Reads b source dialer read (h ++ entries.Stopped cause previous ∷ [])
+  reads_stay b source dialer read h c cause previous r is lost cannot =
+      let shared = shared_giving left given faults b.source.value in
+      let e : Entry = entries.Stopped cause previous in
+      let now : present (h ++ e ∷ []) ≡ present_after (present h) e = present_end h e in
+      let tries : tries_of (h ++ e ∷ []) ≡ tries_of h = tries_more h e c is in
+      let bytes : bytes_fed (h ++ e ∷ []) ≡ bytes_fed h = flat_map-append fed_by h (e ∷ []) ∙ append-nil (bytes_fed h) in
+      let l = present h in
+      record {
+        source_is = subst (λ (x : Bool). KeepsSourceOf link left given faults x shared source read (present (h ++ e ∷ []))) (ap (λ (o : Option ℕ). is_some o) (sym tries))
+            (subst (λ (m : PresentLink). KeepsSourceOf link left given faults (is_some (tries_of h)) shared source read m) (sym now) (stays_if shared (is_some (tries_of h)) source l.sink r.source_is));
+        dialer_is = subst (λ (m : PresentLink). KeepsDialer ended dialer_faults shared b.dialer.value dialer m) (sym now)
+            (dialer_stays ended dialer_faults shared b.dialer.value dialer l (present_after l e) refl refl (lost_some l.write_failed l.stopped lost) (λ same. no_dial cause cannot same) r.dialer_is);
+        open_link = λ some. r.open_link (ap (λ (o : Option ℕ). is_some o) (sym tries) ∙ some);
+        read_is = r.read_is ∙ ap (λ (bs : List ℕ). b.read + length bs) (sym bytes);
+        within = r.within;
+      } where
     no_dial : (c : Stop) → CannotReopen c → Some c ≡ Some causes.DialFault → ⊥
     no_dial (causes.Spent spent need) end e = absurd cc
     no_dial causes.NotReopened end e = absurd cc
@@ -407,12 +380,9 @@ module _ {I O C D : Type 0} (link : I → ℕ) (left given : I → Option (List 
     holds causes.Memory n m o k end = absurd end
     holds causes.DialFault n m o k end = absurd end
 
-    stop_same : (shared : InitialGiving) (x : Bool) (source : I) (i : Option InitialSink) → KeepsSourceIf link left given faults x shared (Some source) i s.read (present_after l (entries.Stopped cause 0)) → KeepsSourceIf link left given faults x shared (Some source) i s.read (present_after l (entries.Stopped cause previous))
-    stop_same shared x source i k = k
-
-    stays_if : (shared : InitialGiving) (x : Bool) (o : Option I) (i : Option InitialSink) → KeepsSourceIf link left given faults x shared o i s.read l → KeepsSourceIf link left given faults x shared o i s.read (present_after l (entries.Stopped cause previous))
-    stays_if shared x (Some source) i k = stop_same shared x source i (stop_if link left given faults x shared source source i s.read l cause (HandsOut_nil (left source) (given source)) refl (omega arith) (λ no. refl) (holds cause (faults source) (faults source) (left source) s.read cannot) k)
-    stays_if shared x None None k = absurd (lost_some l.write_failed l.stopped lost k)
+    stays_if : (shared : InitialGiving) (x : Bool) (o : Option I) (i : Option InitialSink) → KeepsSourceIf link left given faults x shared o i read (present h) → KeepsSourceIf link left given faults x shared o i read (present_after (present h) (entries.Stopped cause previous))
+    stays_if shared x (Some source) i k = stop_if link left given faults x shared source source i read (present h) cause (HandsOut_nil (left source) (given source)) refl (omega arith) (λ no. refl) (holds cause (faults source) (faults source) (left source) read cannot) k
+    stays_if shared x None None k = absurd (lost_some (present h).write_failed (present h).stopped lost k)
     stays_if shared x None (Some sink) k = absurd k
 
   -- the value of the source's turn
@@ -422,37 +392,25 @@ module _ {I O C D : Type 0} (link : I → ℕ) (left given : I → Option (List 
     only x y is = some-injective x y (ap (λ (l : List (InitialSource I O C D)). get_elem? l 0) is)
 
 -- The lost link was left, and the next one was dialled.
-pub feeds_rejoined : {I O C D : Type 0} (link : I → ℕ) (left given : I → Option (List ℕ)) (faults : I → ℕ) (sink_link : O → ℕ) (taken : O → Option (List ℕ)) (sink_faults : O → ℕ) (asked : D → Option (List (List ℕ))) (ended : D → Option LinkLog) (dialer_faults : D → ℕ)
-    (b : InitialSource I O C D) (s t : SourceReader I O C D) (k k' : Option O) (addr : List ℕ) (previous : ℕ) → FeedsFor link left given faults ended dialer_faults b s → PassOn link left given faults ended dialer_faults s t → KeepsSinkOf sink_link taken sink_faults k (present (seen_by s.pass))
-    → is_some (tries_of (seen_by s.pass)) ≡ true → is_lost (seen_by s.pass) ≡ true → DialsNext link left given faults sink_link taken sink_faults asked ended dialer_faults s.source t.source k k' s.dialer t.dialer addr
-    → seen_by t.pass ≡ seen_by s.pass ++ entries.Rejoin (initial_sink sink_link taken sink_faults k') previous ∷ [] → t.read ≡ s.read → t.buf ≡ s.buf → FeedsFor link left given faults ended dialer_faults b t
-feeds_rejoined {I} {O} {C} {D} link left given faults sink_link taken sink_faults asked ended dialer_faults b s t k k' addr previous f on sink some lost dials seen read buf = record {
-  home = on.home ∙ f.home;
-  outside = on.outside;
-  lies = on.lies;
-  feeding = on.feeding;
-  source = subst (λ (z : Bool). KeepsSourceOf link left given faults z shared t.source t.read (present (seen_by t.pass))) (sym (ap (λ (o : Option ℕ). is_some o) on.tries ∙ some))
-      (subst (λ (m : PresentLink). KeepsSourceOf link left given faults true shared t.source t.read m) (sym now)
-      (source_next link left given faults sink_link taken sink_faults asked ended dialer_faults shared s.source t.source k k' t.read l s.dialer t.dialer addr previous dials));
-  dialer = subst (λ (m : PresentLink). KeepsDialer ended dialer_faults shared b.dialer.value t.dialer m) (sym now)
-      (dialer_next link left given faults sink_link taken sink_faults asked ended dialer_faults shared s.source t.source k k' s.read l b.dialer.value s.dialer t.dialer addr previous dials
-      (subst (λ (z : Bool). KeepsSourceOf link left given faults z shared s.source s.read l) some f.source) sink (lost_some l.write_failed l.stopped lost) f.dialer);
-  open_link = λ is. f.open_link some;
-  read = read ∙ (f.read ∙ ap (λ (bs : List ℕ). b.read + length bs) (sym bytes));
-  within = (let w = f.within in omega (arith, w, read));
-  room = ap (λ x. length x.items) buf ∙ f.room;
-} where
-  shared : InitialGiving
-  shared = shared_giving left given faults b.source.value
-
-  l : PresentLink
-  l = present (seen_by s.pass)
-
-  e : Entry
-  e = entries.Rejoin (initial_sink sink_link taken sink_faults k') previous
-
-  now : present (seen_by t.pass) ≡ present_after l e
-  now = ap (λ (h : List Entry). present h) seen ∙ present_end (seen_by s.pass) e
-
-  bytes : bytes_fed (seen_by t.pass) ≡ bytes_fed (seen_by s.pass)
-  bytes = ap (λ (h : List Entry). bytes_fed h) seen ∙ (flat_map-append fed_by (seen_by s.pass) (e ∷ []) ∙ append-nil (bytes_fed (seen_by s.pass)))
+pub reads_rejoined : {I O C D : Type 0} (link : I → ℕ) (left given : I → Option (List ℕ)) (faults : I → ℕ) (sink_link : O → ℕ) (taken : O → Option (List ℕ)) (sink_faults : O → ℕ) (asked : D → Option (List (List ℕ))) (ended : D → Option LinkLog) (dialer_faults : D → ℕ)
+    (b : InitialSource I O C D) (source source' : Option I) (dialer dialer' : D) (read : ℕ) (h : List Entry) (c : InitialState) (k k' : Option O) (addr : List ℕ) (previous : ℕ) → Reads link left given faults ended dialer_faults b source dialer read h → initial_of h ≡ Some c
+    → KeepsSinkOf sink_link taken sink_faults k (present h) → is_some (tries_of h) ≡ true → is_lost h ≡ true → DialsNext link left given faults sink_link taken sink_faults asked ended dialer_faults source source' k k' dialer dialer' addr
+    → Reads link left given faults ended dialer_faults b source' dialer' read (h ++ entries.Rejoin (initial_sink sink_link taken sink_faults k') previous ∷ [])
+reads_rejoined link left given faults sink_link taken sink_faults asked ended dialer_faults b source source' dialer dialer' read h c k k' addr previous r is sink some lost dials =
+    let shared = shared_giving left given faults b.source.value in
+    let e : Entry = entries.Rejoin (initial_sink sink_link taken sink_faults k') previous in
+    let now : present (h ++ e ∷ []) ≡ present_after (present h) e = present_end h e in
+    let tries : tries_of (h ++ e ∷ []) ≡ tries_of h = tries_more h e c is in
+    let bytes : bytes_fed (h ++ e ∷ []) ≡ bytes_fed h = flat_map-append fed_by h (e ∷ []) ∙ append-nil (bytes_fed h) in
+    let l = present h in
+    record {
+      source_is = subst (λ (z : Bool). KeepsSourceOf link left given faults z shared source' read (present (h ++ e ∷ []))) (sym (ap (λ (o : Option ℕ). is_some o) tries ∙ some))
+          (subst (λ (m : PresentLink). KeepsSourceOf link left given faults true shared source' read m) (sym now)
+          (source_next link left given faults sink_link taken sink_faults asked ended dialer_faults shared source source' k k' read l dialer dialer' addr previous dials));
+      dialer_is = subst (λ (m : PresentLink). KeepsDialer ended dialer_faults shared b.dialer.value dialer' m) (sym now)
+          (dialer_next link left given faults sink_link taken sink_faults asked ended dialer_faults shared source source' k k' read l b.dialer.value dialer dialer' addr previous dials
+          (subst (λ (z : Bool). KeepsSourceOf link left given faults z shared source read l) some r.source_is) sink (lost_some l.write_failed l.stopped lost) r.dialer_is);
+      open_link = λ is. r.open_link some;
+      read_is = r.read_is ∙ ap (λ (bs : List ℕ). b.read + length bs) (sym bytes);
+      within = r.within;
+    }
