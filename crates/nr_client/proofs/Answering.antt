@@ -22,12 +22,17 @@ use Rattle.nr_requester.proofs.OpenTickets.{done_keeps_law, forget_keeps_law, fo
 use Rattle.nr_client.specs.declared.call_end.CallEnd.{CallEnd}
 use Rattle.nr_client.specs.declared.call_end.CallEnd.TheVariants as calls
 use Rattle.nr_client.specs.Ending.{LinkCause}
-use Rattle.nr_client.specs.Calls.{Answers, Completes, Forgets, ForgetsCall, GivesUp, HandsOver, IsSent, IsSubmitted, MovesOfCall, NoneCame, RefusesToSubmit, Submits, run_to_submit}
+use Rattle.nr_client.specs.Calls.{AddsForget, Answers, Completes, Forgets, GivesUp, HandsOver, IsSent, IsSubmitted, MovesOfCall, NoneCame, RefusesToSubmit, Submits, run_to_submit}
 use Rattle.nr_client.specs.Steps.{GoesOn, GoesTo, HasCreditLeft, IsLeft, IsLive, LacksAnswer, ReadsNone, WritesFirst}
 use Rattle.nr_client.specs.Transfers.{LinkBytes, Moves}
+use Rattle.nr_client.specs.Views.{LinkView}
 use Rattle.nr_client.proofs.Unanswered.{none_came}
 use Rattle.nr_client.proofs.Moves.{moves_both}
 use Rattle.nr_client.proofs.Turns.{ends_there}
+
+-- a link at a moment, no read or write of which failed: a call makes the same of it, whatever its fault counts are
+abbrev unfailing : LinkBytes → RequesterSide → LinkView
+unfailing b h = record { bytes = b; requester = h; source_faults = 0; sink_faults = 0 }
 
 -- it was submitted
 submitted : (call : Call) (xid : ℕ) (h i : RequesterSide) (opened : LinkParameters) (link : ℕ) (run : List Mark) → IsSent xid call h i → CanWriteCred call.cred → IsOpened opened
@@ -42,7 +47,7 @@ hands_over xid h i a found on opened link run live =
     let kept = done_keeps_law opened link h run xid a live.stands found live.asked live.granted in
     record { stands = on opened link run live.stands; asked = kept.0; granted = kept.1 }
 
-pub completes : (xid : ℕ) (outcome : Outcome) (b c : LinkBytes) (h i j : RequesterSide) → GoesOn b c h i → HandsOver xid outcome i j → Completes xid outcome b c h j
+pub completes : (xid : ℕ) (outcome : Outcome) (b c : LinkBytes) (h i j : RequesterSide) → GoesOn b c h i → HandsOver xid outcome i j → Completes xid outcome (unfailing b h) (unfailing c j)
 completes xid outcome b c h i j goes over opened link run fine live =
     let one = goes opened link run fine live in
     (one.moved, (one.bytes, (one.written, (one.whole, over opened link (run ++ one.moved) one.live))))
@@ -64,7 +69,7 @@ none_at xid end h opened link ahead run is_open (inr none) (inl (live, over)) = 
 none_at xid end h opened link ahead run is_open (inr none) (inr (is, stopped)) = inl is
 
 pub forgets : (xid : ℕ) (end : CallEnd) (b c : LinkBytes) (h i j : RequesterSide) → GoesTo end b c h i → LacksAnswer end xid i → StandsOn i (λ link. marks.Forget link xid) j
-    → StaysOut i (λ link. marks.Forget link xid) j → is_some (open_call xid i.state) ≡ true → Forgets xid end b c h j
+    → StaysOut i (λ link. marks.Forget link xid) j → is_some (open_call xid i.state) ≡ true → Forgets xid end (unfailing b h) (unfailing c j)
 forgets xid end b c h i j goes lacks on out is_open opened link run fine live =
     let one = goes opened link run fine live in (
       one.moved,
@@ -92,7 +97,7 @@ no_bytes : (link : ℕ) (b c : LinkBytes) (moved : List Mark) → Moves link b c
 no_bytes link b c moved moves none = nil_from_length (bytes_received link Initiator moved) (let count = moves.count in let same = none.1.1 in let over = length-append (bytes_received link Initiator moved) [] in omega (arith, count, same, over))
 
 pub submits : (call : Call) (xid : ℕ) (b c : LinkBytes) (h i j : RequesterSide) → CanWriteCred call.cred → h.state.side.ended ≡ None → (HasCreditLeft h → ReadsNone b c)
-    → GoesOn b c h i → IsSent xid call i j → Submits b c h j call xid
+    → GoesOn b c h i → IsSent xid call i j → Submits (unfailing b h) (unfailing c j) call xid
 submits call xid b c h i j writable started at_once goes sent = (
   started,
   λ opened link run fine live.
@@ -119,7 +124,7 @@ of_call call xid b c d h i opened link run ahead moved one more written = record
   written = written;
 }
 
-pub answers : (call : Call) (xid : ℕ) (outcome : Outcome) (b c d : LinkBytes) (h i j : RequesterSide) → Submits b c h i call xid → Completes xid outcome c d i j → Answers b d h j call outcome
+pub answers : (call : Call) (xid : ℕ) (outcome : Outcome) (b c d : LinkBytes) (h i j : RequesterSide) → Submits (unfailing b h) (unfailing c i) call xid → Completes xid outcome (unfailing c i) (unfailing d j) → Answers (unfailing b h) (unfailing d j) call outcome
 answers call xid outcome b c d h i j sent completed = (
   sent.0,
   λ opened link run fine live.
@@ -128,8 +133,8 @@ answers call xid outcome b c d h i j sent completed = (
       record { waits = one.waits; xid = xid; moved = moved; moves = of_call call xid b c d h i opened link run [] moved one moves written; whole = whole; live = done }),
 )
 
-pub gives_up : (call : Call) (xid : ℕ) (end : CallEnd) (b c d : LinkBytes) (h i j : RequesterSide) → Submits b c h i call xid → Forgets xid end c d i j → LinkCause end d.left d.read j
-    → GivesUp b d h j call end
+pub gives_up : (call : Call) (xid : ℕ) (end : CallEnd) (b c d : LinkBytes) (h i j : RequesterSide) → Submits (unfailing b h) (unfailing c i) call xid → Forgets xid end (unfailing c i) (unfailing d j) → LinkCause end d.left d.read j
+    → GivesUp (unfailing b h) (unfailing d j) call end
 gives_up call xid end b c d h i j sent forgotten cause =
     inr (
       cause,
@@ -151,15 +156,15 @@ gives_up call xid end b c d h i j sent forgotten cause =
 
 -- it was not submitted
 pub refused : (call : Call) (end : CallEnd) (b c : LinkBytes) (h i j : RequesterSide) → j ≡ i → queue_of i.state ≡ [] → (HasCreditLeft h → ReadsNone b c) → GoesOn b c h i
-    → RefusesToSubmit b c h j call end
+    → RefusesToSubmit (unfailing b h) (unfailing c j) call end
 refused call end b c h i j same none at_once goes =
     (ends_there end b c h j (inr (ap (λ (x : RequesterSide). queue_of x.state) same ∙ none)) (subst (GoesOn b c h) (sym same) goes), at_once)
 
-pub not_sent : (call : Call) (end : CallEnd) (b c : LinkBytes) (h i : RequesterSide) → RefusesToSubmit b c h i call end → GivesUp b c h i call end
+pub not_sent : (call : Call) (end : CallEnd) (b c : LinkBytes) (h i : RequesterSide) → RefusesToSubmit (unfailing b h) (unfailing c i) call end → GivesUp (unfailing b h) (unfailing c i) call end
 not_sent call end b c h i refuses = inl refuses
 
 -- a call is forgotten, whether or not its answer has come
-pub forgets_call : (xid : ℕ) (h i : RequesterSide) → StandsOn h (λ link. marks.Forget link xid) i → StaysOut h (λ link. marks.Forget link xid) i → is_some (open_call xid h.state) ≡ true → ForgetsCall xid h i
+pub forgets_call : (xid : ℕ) (h i : RequesterSide) → StandsOn h (λ link. marks.Forget link xid) i → StaysOut h (λ link. marks.Forget link xid) i → is_some (open_call xid h.state) ≡ true → AddsForget xid h i
 forgets_call xid h i on out is_open = (
   λ opened link run live.
       (let kept = forget_keeps_law opened link h run xid live.stands is_open live.asked live.granted in

@@ -17,14 +17,14 @@ use Rattle.nr_client.specs.Reading.FileRead.{NothingKnown, SizeKnown}
 use Rattle.nr_client.specs.Reading.ReadStep.{MakesAlone, AsksAhead, TakesOldest}
 use Rattle.nr_client.specs.Requests.{Asks, getattr_call, getattr_result}
 use Rattle.nr_client.specs.Steps.{HasCreditLeft}
-use Rattle.nr_client.specs.Transfers.{LinkBytes}
+use Rattle.nr_client.specs.Views.{LinkView}
 use Rattle.nr_client.specs.private.OpenReads.{GivesData, IsFull, IsInPiece, MayAsk, ReadSoFar, ReadsAhead, reads_from}
 use Rattle.nr_client.proofs.FilePieces.{asks_next, asks_none, next_after_last, not_at_piece, now_at_piece, reads_with_last}
 use Rattle.nr_client.proofs.Tickets.{open_with_last}
 
 -- a moment of it
-abbrev pub moment : List Outcome → List OpenRead → LinkBytes → RequesterSide → ReadingAt
-moment outcomes waiting b h = record { outcomes = outcomes; waiting = waiting; bytes = b; side = h }
+abbrev pub moment : List Outcome → List OpenRead → LinkView → ReadingAt
+moment outcomes waiting b = record { outcomes = outcomes; waiting = waiting; link = b }
 
 -- what comes next: a READ before the size, and nothing from there on
 pub next_is : (uid gid : ℕ) (file : List ℕ) (size at : ℕ) (bytes : List ℕ) → at < size
@@ -45,29 +45,29 @@ came_with outcomes outcome size at bytes read state reads = state_after outcomes
 
 -- ---- Each step
 
-pub read_started : (uid gid : ℕ) (file : List ℕ) (b c : LinkBytes) (h i : RequesterSide) (taken : Option (List ℕ)) (attributes : Attributes)
-    → Asks getattr_result (getattr_call uid gid file) b c h i (Ok attributes) → ReadSoFar uid gid file attributes.size (starts_at b h) taken 0 0 [] c i taken
-read_started uid gid file b c h i taken attributes (inl (outcome, (answered, reads))) =
+pub read_started : (uid gid : ℕ) (file : List ℕ) (b c : LinkView) (taken : Option (List ℕ)) (attributes : Attributes)
+    → Asks getattr_result (getattr_call uid gid file) b c (Ok attributes) → ReadSoFar uid gid file attributes.size (starts_at b) taken 0 0 [] c taken
+read_started uid gid file b c taken attributes (inl (outcome, (answered, reads))) =
     record {
-      between = starts_at b h ∷ [];
+      between = starts_at b ∷ [];
       outcomes = outcome ∷ [];
       bytes = [];
       made = (MakesAlone (getattr_call uid gid file) outcome (refl, refl) answered refl refl, refl);
       state = ap with_size reads;
       appends = Appends-nil taken;
     }
-read_started uid gid file b c h i taken attributes (inr (inl (end, (is, rest)))) = absurd (cc)
-read_started uid gid file b c h i taken attributes (inr (inr (is, rest))) = absurd (cc)
+read_started uid gid file b c taken attributes (inr (inl (end, (is, rest)))) = absurd (cc)
+read_started uid gid file b c taken attributes (inr (inr (is, rest))) = absurd (cc)
 
 reads_length : (uid gid : ℕ) (file : List ℕ) (size from : ℕ) (xids : List ℕ) → length (reads_from uid gid file size from xids) ≡ length xids
 reads_length uid gid file size from [] = refl
 reads_length uid gid file size from (xid ∷ xids) = ap suc (reads_length uid gid file size (from + piece_left size from) xids)
 
 -- a READ is submitted ahead
-pub is_ahead : (uid gid : ℕ) (file : List ℕ) (size at next : ℕ) (xids : List ℕ) (bytes : List ℕ) (outcomes : List Outcome) (b : LinkBytes) (h : RequesterSide)
-    → at < size → file_read outcomes ≡ SizeKnown size at bytes → ReadsAhead h size at next xids → MayAsk size next xids h
-    → IsMadeAhead uid gid file (moment outcomes (reads_from uid gid file size at xids) b h) (read_call uid gid file next (piece_left size next))
-is_ahead uid gid file size at next xids bytes outcomes b h below state ahead may = (
+pub is_ahead : (uid gid : ℕ) (file : List ℕ) (size at next : ℕ) (xids : List ℕ) (bytes : List ℕ) (outcomes : List Outcome) (b : LinkView)
+    → at < size → file_read outcomes ≡ SizeKnown size at bytes → ReadsAhead b.requester size at next xids → MayAsk size next xids b.requester
+    → IsMadeAhead uid gid file (moment outcomes (reads_from uid gid file size at xids) b) (read_call uid gid file next (piece_left size next))
+is_ahead uid gid file size at next xids bytes outcomes b below state ahead may = (
   ap is_at_piece state ∙ now_at_piece size at below ahead.piece bytes,
   (
     ap (λ (s : FileRead). read_ahead uid gid file s (reads_from uid gid file size at xids)) state ∙ asks_next uid gid file size at next xids bytes may.0 ahead.next_is,
@@ -75,36 +75,36 @@ is_ahead uid gid file size at next xids bytes outcomes b h below state ahead may
   ),
 )
   where
-    by : (xids ≡ []) ⊎ (HasCreditLeft h × (length xids < reads_max)) → (reads_from uid gid file size at xids ≡ []) ⊎ (HasCreditLeft h × (length (reads_from uid gid file size at xids) < reads_max))
+    by : (xids ≡ []) ⊎ (HasCreditLeft b.requester × (length xids < reads_max)) → (reads_from uid gid file size at xids ≡ []) ⊎ (HasCreditLeft b.requester × (length (reads_from uid gid file size at xids) < reads_max))
     by (inl none) = inl (ap (reads_from uid gid file size at) none)
     by (inr (credit, fewer)) = inr (credit, subst (λ (n : ℕ). n < reads_max) (sym (reads_length uid gid file size at xids)) fewer)
 
-pub asked_more : (uid gid : ℕ) (file : List ℕ) (size at next : ℕ) (xids : List ℕ) (xid : ℕ) (first : ReadingAt) (t u : Option (List ℕ)) (b c : LinkBytes) (h i : RequesterSide)
-    → at < size → ReadsAhead h size at next xids → MayAsk size next xids h → Submits b c h i (read_call uid gid file next (piece_left size next)) xid
-    → ReadSoFar uid gid file size first t at at xids b h u → ReadSoFar uid gid file size first t at at (xids ++ xid ∷ []) c i u
-asked_more uid gid file size at next xids xid first t u b c h i below ahead may submits so_far =
+pub asked_more : (uid gid : ℕ) (file : List ℕ) (size at next : ℕ) (xids : List ℕ) (xid : ℕ) (first : ReadingAt) (t u : Option (List ℕ)) (b c : LinkView)
+    → at < size → ReadsAhead b.requester size at next xids → MayAsk size next xids b.requester → Submits b c (read_call uid gid file next (piece_left size next)) xid
+    → ReadSoFar uid gid file size first t at at xids b u → ReadSoFar uid gid file size first t at at (xids ++ xid ∷ []) c u
+asked_more uid gid file size at next xids xid first t u b c below ahead may submits so_far =
     let read : OpenRead = record { xid = xid; call = read_call uid gid file next (piece_left size next) } in
     let waiting = reads_from uid gid file size at xids in
     let last : reads_from uid gid file size at (xids ++ xid ∷ []) ≡ waiting ++ read ∷ [] =
     reads_with_last uid gid file size at xids xid
     ∙ ap (λ (n : ℕ). waiting ++ (record { xid = xid; call = read_call uid gid file n (piece_left size n) }) ∷ []) (sym ahead.next_is) in
     record {
-      between = moment so_far.outcomes waiting b h ∷ so_far.between;
+      between = moment so_far.outcomes waiting b ∷ so_far.between;
       outcomes = so_far.outcomes;
       bytes = so_far.bytes;
-      made = (AsksAhead read (is_ahead uid gid file size at next xids so_far.bytes so_far.outcomes b h below so_far.state ahead may) submits refl last, so_far.made);
+      made = (AsksAhead read (is_ahead uid gid file size at next xids so_far.bytes so_far.outcomes b below so_far.state ahead may) submits refl last, so_far.made);
       state = so_far.state;
       appends = so_far.appends;
     }
 
 -- no other is
-pub none_ahead : (uid gid : ℕ) (file : List ℕ) (size at next : ℕ) (xids : List ℕ) (bytes : List ℕ) (outcomes : List Outcome) (b : LinkBytes) (h : RequesterSide)
-    → file_read outcomes ≡ SizeKnown size at bytes → ReadsAhead h size at next xids → IsFull size next xids h
-    → NoneIsMadeAhead uid gid file (moment outcomes (reads_from uid gid file size at xids) b h)
-none_ahead uid gid file size at next xids bytes outcomes b h state ahead (inl above) =
+pub none_ahead : (uid gid : ℕ) (file : List ℕ) (size at next : ℕ) (xids : List ℕ) (bytes : List ℕ) (outcomes : List Outcome) (b : LinkView)
+    → file_read outcomes ≡ SizeKnown size at bytes → ReadsAhead b.requester size at next xids → IsFull size next xids b.requester
+    → NoneIsMadeAhead uid gid file (moment outcomes (reads_from uid gid file size at xids) b)
+none_ahead uid gid file size at next xids bytes outcomes b state ahead (inl above) =
     inl (ap (λ (s : FileRead). read_ahead uid gid file s (reads_from uid gid file size at xids)) state ∙ asks_none uid gid file size at next xids bytes above ahead.next_is)
-none_ahead uid gid file size at next xids bytes outcomes b h state ahead (inr (some, inl full)) = inr (inl full)
-none_ahead uid gid file size at next xids bytes outcomes b h state ahead (inr (some, inr many)) = inr (inr (subst (λ (n : ℕ). reads_max ≤ n) (sym (reads_length uid gid file size at xids)) many))
+none_ahead uid gid file size at next xids bytes outcomes b state ahead (inr (some, inl full)) = inr (inl full)
+none_ahead uid gid file size at next xids bytes outcomes b state ahead (inr (some, inr many)) = inr (inr (subst (λ (n : ℕ). reads_max ≤ n) (sym (reads_length uid gid file size at xids)) many))
 
 -- the state after the data of a READ were written
 pub data_came : (size at at' count step : ℕ) (bytes : List ℕ) (outcomes : List Outcome) (outcome : Outcome) (results : ReadOk) → file_read outcomes ≡ SizeKnown size at bytes
@@ -115,18 +115,18 @@ data_came size at at' count step bytes outcomes outcome results state same goes 
     ∙ ap (λ (k : ℕ). SizeKnown size k (bytes ++ results.bytes)) (ap (λ (n : ℕ). at + (if results.eof then n else length results.bytes)) (sym same) ∙ ap (λ (n : ℕ). at + n) (sym is) ∙ sym goes)
 
 -- the oldest READ was answered
-pub taken_more : (uid gid : ℕ) (file : List ℕ) (size at at' next count step : ℕ) (xid : ℕ) (xids : List ℕ) (outcome : Outcome) (first : ReadingAt) (t u v : Option (List ℕ)) (b c : LinkBytes) (h i : RequesterSide)
-    → at < size → ReadsAhead h size at next (xid ∷ xids) → IsFull size next (xid ∷ xids) h → count ≡ piece_left size at → at' ≡ at + step
-    → Completes xid outcome b c h i → GivesData count outcome step u v
-    → ReadSoFar uid gid file size first t at at (xid ∷ xids) b h u → ReadSoFar uid gid file size first t at' (at + piece_left size at) xids c i v
-taken_more uid gid file size at at' next count step xid xids outcome first t u v b c h i below ahead full same goes completes (results, (reads, (is, appends))) so_far =
+pub taken_more : (uid gid : ℕ) (file : List ℕ) (size at at' next count step : ℕ) (xid : ℕ) (xids : List ℕ) (outcome : Outcome) (first : ReadingAt) (t u v : Option (List ℕ)) (b c : LinkView)
+    → at < size → ReadsAhead b.requester size at next (xid ∷ xids) → IsFull size next (xid ∷ xids) b.requester → count ≡ piece_left size at → at' ≡ at + step
+    → Completes xid outcome b c → GivesData count outcome step u v
+    → ReadSoFar uid gid file size first t at at (xid ∷ xids) b u → ReadSoFar uid gid file size first t at' (at + piece_left size at) xids c v
+taken_more uid gid file size at at' next count step xid xids outcome first t u v b c below ahead full same goes completes (results, (reads, (is, appends))) so_far =
     record {
-      between = moment so_far.outcomes (reads_from uid gid file size at (xid ∷ xids)) b h ∷ so_far.between;
+      between = moment so_far.outcomes (reads_from uid gid file size at (xid ∷ xids)) b ∷ so_far.between;
       outcomes = so_far.outcomes ++ outcome ∷ [];
       bytes = so_far.bytes ++ results.bytes;
       made = (
         TakesOldest (record { xid = xid; call = read_call uid gid file at (piece_left size at) }) outcome
-            (none_ahead uid gid file size at next (xid ∷ xids) so_far.bytes so_far.outcomes b h so_far.state ahead full)
+            (none_ahead uid gid file size at next (xid ∷ xids) so_far.bytes so_far.outcomes b so_far.state ahead full)
             (follows uid gid file size at so_far.bytes so_far.outcomes below so_far.state) completes refl refl,
         so_far.made,
       );
@@ -135,39 +135,39 @@ taken_more uid gid file size at at' next count step xid xids outcome first t u v
     }
 
 -- a READ of the rest of a piece is made alone
-pub is_alone : (uid gid : ℕ) (file : List ℕ) (size at end : ℕ) (waiting : List OpenRead) (bytes : List ℕ) (outcomes : List Outcome) (b : LinkBytes) (h : RequesterSide)
+pub is_alone : (uid gid : ℕ) (file : List ℕ) (size at end : ℕ) (waiting : List OpenRead) (bytes : List ℕ) (outcomes : List Outcome) (b : LinkView)
     → at < size → at < end → IsInPiece size at end → file_read outcomes ≡ SizeKnown size at bytes
-    → IsMadeAlone uid gid file (moment outcomes waiting b h) (read_call uid gid file at (piece_left size at))
-is_alone uid gid file size at end waiting bytes outcomes b h below within piece state =
+    → IsMadeAlone uid gid file (moment outcomes waiting b) (read_call uid gid file at (piece_left size at))
+is_alone uid gid file size at end waiting bytes outcomes b below within piece state =
     (follows uid gid file size at bytes outcomes below state, ap is_at_piece state ∙ not_at_piece size at end within piece bytes)
 
-pub alone_more : (uid gid : ℕ) (file : List ℕ) (size at at' end count step from : ℕ) (xids : List ℕ) (outcome : Outcome) (first : ReadingAt) (t u v : Option (List ℕ)) (b c : LinkBytes) (h i : RequesterSide)
+pub alone_more : (uid gid : ℕ) (file : List ℕ) (size at at' end count step from : ℕ) (xids : List ℕ) (outcome : Outcome) (first : ReadingAt) (t u v : Option (List ℕ)) (b c : LinkView)
     → at < size → at < end → IsInPiece size at end → count ≡ piece_left size at → at' ≡ at + step
-    → Answers b c h i (read_call uid gid file at count) outcome → GivesData count outcome step u v
-    → ReadSoFar uid gid file size first t at from xids b h u → ReadSoFar uid gid file size first t at' from xids c i v
-alone_more uid gid file size at at' end count step from xids outcome first t u v b c h i below within piece same goes answered (results, (reads, (is, appends))) so_far =
+    → Answers b c (read_call uid gid file at count) outcome → GivesData count outcome step u v
+    → ReadSoFar uid gid file size first t at from xids b u → ReadSoFar uid gid file size first t at' from xids c v
+alone_more uid gid file size at at' end count step from xids outcome first t u v b c below within piece same goes answered (results, (reads, (is, appends))) so_far =
     let waiting = reads_from uid gid file size from xids in
-    let alone : Answers b c h i (read_call uid gid file at (piece_left size at)) outcome = subst (λ (n : ℕ). Answers b c h i (read_call uid gid file at n) outcome) same answered in
+    let alone : Answers b c (read_call uid gid file at (piece_left size at)) outcome = subst (λ (n : ℕ). Answers b c (read_call uid gid file at n) outcome) same answered in
     record {
-      between = moment so_far.outcomes waiting b h ∷ so_far.between;
+      between = moment so_far.outcomes waiting b ∷ so_far.between;
       outcomes = so_far.outcomes ++ outcome ∷ [];
       bytes = so_far.bytes ++ results.bytes;
       made = (
-        MakesAlone (read_call uid gid file at (piece_left size at)) outcome (is_alone uid gid file size at end waiting so_far.bytes so_far.outcomes b h below within piece so_far.state) alone refl refl,
+        MakesAlone (read_call uid gid file at (piece_left size at)) outcome (is_alone uid gid file size at end waiting so_far.bytes so_far.outcomes b below within piece so_far.state) alone refl refl,
         so_far.made,
       );
       state = data_came size at at' count step so_far.bytes so_far.outcomes outcome results so_far.state same goes reads is;
       appends = Appends-trans t u v so_far.bytes results.bytes so_far.appends appends;
     }
 
-pub taken_from : (uid gid : ℕ) (file : List ℕ) (size at at' next count step : ℕ) (xid : ℕ) (xs xids : List ℕ) (outcome : Outcome) (first : ReadingAt) (t u v : Option (List ℕ)) (b c : LinkBytes) (h i : RequesterSide)
-    → xs ≡ xid ∷ xids → at < size → ReadsAhead h size at next xs → IsFull size next xs h → count ≡ piece_left size at → at' ≡ at + step
-    → Completes xid outcome b c h i → GivesData count outcome step u v
-    → ReadSoFar uid gid file size first t at at xs b h u → ReadSoFar uid gid file size first t at' (at + piece_left size at) xids c i v
-taken_from uid gid file size at at' next count step xid xs xids outcome first t u v b c h i is below ahead full same goes completes gives so_far =
-    taken_more uid gid file size at at' next count step xid xids outcome first t u v b c h i below
-    (subst (λ (l : List ℕ). ReadsAhead h size at next l) is ahead) (subst (λ (l : List ℕ). IsFull size next l h) is full) same goes completes gives
-    (subst (λ (l : List ℕ). ReadSoFar uid gid file size first t at at l b h u) is so_far)
+pub taken_from : (uid gid : ℕ) (file : List ℕ) (size at at' next count step : ℕ) (xid : ℕ) (xs xids : List ℕ) (outcome : Outcome) (first : ReadingAt) (t u v : Option (List ℕ)) (b c : LinkView)
+    → xs ≡ xid ∷ xids → at < size → ReadsAhead b.requester size at next xs → IsFull size next xs b.requester → count ≡ piece_left size at → at' ≡ at + step
+    → Completes xid outcome b c → GivesData count outcome step u v
+    → ReadSoFar uid gid file size first t at at xs b u → ReadSoFar uid gid file size first t at' (at + piece_left size at) xids c v
+taken_from uid gid file size at at' next count step xid xs xids outcome first t u v b c is below ahead full same goes completes gives so_far =
+    taken_more uid gid file size at at' next count step xid xids outcome first t u v b c below
+    (subst (λ (l : List ℕ). ReadsAhead b.requester size at next l) is ahead) (subst (λ (l : List ℕ). IsFull size next l b.requester) is full) same goes completes gives
+    (subst (λ (l : List ℕ). ReadSoFar uid gid file size first t at at l b u) is so_far)
 
 -- ---- A READ that was submitted, by the call and the tickets
 
@@ -175,14 +175,14 @@ call_is : (uid gid : ℕ) (file : List ℕ) (size next count : ℕ) (call : Call
     → call ≡ read_call uid gid file next (piece_left size next)
 call_is uid gid file size next count call is same = is ∙ ap (read_call uid gid file next) same
 
-pub asked_from : (uid gid : ℕ) (file : List ℕ) (size at next count : ℕ) (xids ys : List ℕ) (xid : ℕ) (call : Call) (first : ReadingAt) (t u : Option (List ℕ)) (b c : LinkBytes) (h i : RequesterSide)
+pub asked_from : (uid gid : ℕ) (file : List ℕ) (size at next count : ℕ) (xids ys : List ℕ) (xid : ℕ) (call : Call) (first : ReadingAt) (t u : Option (List ℕ)) (b c : LinkView)
     → ys ≡ xids ++ xid ∷ [] → call ≡ read_call uid gid file next count → count ≡ piece_left size next
-    → at < size → ReadsAhead h size at next xids → MayAsk size next xids h → Submits b c h i call xid
-    → ReadSoFar uid gid file size first t at at xids b h u → ReadSoFar uid gid file size first t at at ys c i u
-asked_from uid gid file size at next count xids ys xid call first t u b c h i all is same below ahead may submits so_far =
-    subst (λ (l : List ℕ). ReadSoFar uid gid file size first t at at l c i u) (sym all)
-    (asked_more uid gid file size at next xids xid first t u b c h i below ahead may
-    (subst (λ (a : Call). Submits b c h i a xid) (call_is uid gid file size next count call is same) submits) so_far)
+    → at < size → ReadsAhead b.requester size at next xids → MayAsk size next xids b.requester → Submits b c call xid
+    → ReadSoFar uid gid file size first t at at xids b u → ReadSoFar uid gid file size first t at at ys c u
+asked_from uid gid file size at next count xids ys xid call first t u b c all is same below ahead may submits so_far =
+    subst (λ (l : List ℕ). ReadSoFar uid gid file size first t at at l c u) (sym all)
+    (asked_more uid gid file size at next xids xid first t u b c below ahead may
+    (subst (λ (a : Call). Submits b c a xid) (call_is uid gid file size next count call is same) submits) so_far)
 
 pub ahead_from : (size at next count : ℕ) (xids ys : List ℕ) (xid : ℕ) (call : Call) (h i : RequesterSide)
     → ys ≡ xids ++ xid ∷ [] → count ≡ piece_left size next → OpensTicket xid call h.state i.state → ReadsAhead h size at next xids → ReadsAhead i size at (next + count) ys

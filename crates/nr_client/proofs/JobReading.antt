@@ -26,7 +26,7 @@ use Rattle.nr_client.specs.declared.client_end.ClientEnd.{ClientEnd}
 use Rattle.nr_client.specs.declared.client_end.ClientEnd.TheVariants as client
 use Rattle.nr_client.specs.declared.jobs.ReadJob.{ReadJob}
 use Rattle.nr_client.specs.Following.Next.{Calls, Returns}
-use Rattle.nr_client.specs.Jobs.{AreExchanges, GetsAttributes, IsExchange, IsPiece, LinkAt, ReadsByJobs, ReadsFileByJobs, ReadsShared, bytes_at, link_at}
+use Rattle.nr_client.specs.Jobs.{AreExchanges, GetsAttributes, IsExchange, IsPiece, LinkAt, ReadsByJobs, ReadsFileByJobs, ReadsShared, view_at, link_at}
 use Rattle.nr_client.specs.Jobs.ReadsFileByJobs.{NoAttributes, Shared}
 use Rattle.nr_client.specs.LinkParts.{LinkParts}
 use Rattle.nr_client.specs.Reading.{file_read, next_read, piece_left, read_call, reading, with_size}
@@ -154,7 +154,7 @@ all_done s uid gid file size len old new rest same lent run =
 -- ---- Shared and taken back
 
 -- GETATTR over the link gave the attributes
-pub gets : (uid gid : ℕ) (file : List ℕ) (l m : LinkAt) (attributes : Attributes) → Asks getattr_result (getattr_call uid gid file) (bytes_at l) (bytes_at m) l.requester m.requester (Ok attributes)
+pub gets : (uid gid : ℕ) (file : List ℕ) (l m : LinkAt) (attributes : Attributes) → Asks getattr_result (getattr_call uid gid file) (view_at l) (view_at m) (Ok attributes)
     → m.source.faults ≡ l.source.faults → m.sink.faults ≡ l.sink.faults → (outcome : Outcome) × GetsAttributes uid gid file outcome attributes l m
 gets uid gid file l m attributes (inl (outcome, (answered, reads))) source sink = (outcome, record { answers = answered; gives = reads; source_count = source; sink_count = sink })
 gets uid gid file l m attributes (inr (inl (end, (is, rest)))) source sink = absurd (cc)
@@ -166,7 +166,7 @@ module _ {I O : Type 0} (left given : I → Option (List ℕ)) (source_faults : 
   known l = link_at l.requester (source_at (left l.source) (given l.source) (source_faults l.source)) (sink_at (taken l.sink) (sink_faults l.sink)) l.read
 
   pub no_attributes : (uid gid : ℕ) (file : List ℕ) (l m : LinkParts I O) (end : ClientEnd) (source : I) (sink : O) (out : Option (List ℕ))
-      → Asks getattr_result (getattr_call uid gid file) (bytes_at (known l)) (bytes_at (known m)) l.requester m.requester (Err end)
+      → Asks getattr_result (getattr_call uid gid file) (view_at (known l)) (view_at (known m)) (Err end)
       → SourceFaults {A = Attributes} (Err end) (source_faults l.source) (source_faults m.source) → SinkFaults {A = Attributes} (Err end) (sink_faults l.sink) (sink_faults m.sink)
       → source ≡ m.source → sink ≡ m.sink
       → ReadsFileByJobs uid gid file (known l) (source_at (left source) (given source) (source_faults source)) (sink_at (taken sink) (sink_faults sink)) out out (Err end)
@@ -175,7 +175,7 @@ module _ {I O : Type 0} (left given : I → Option (List ℕ)) (source_faults : 
       (ap (λ (x : I). source_at (left x) (given x) (source_faults x)) same_source, ap (λ (x : O). sink_at (taken x) (sink_faults x)) same_sink) refl
 
   pub shared_after : (uid gid : ℕ) (file : List ℕ) (l m : LinkParts I O) (attributes : Attributes) (r : RequesterSide) (source : I) (sink : O) (read : ℕ) (source' : SourceAt) (sink' : SinkAt) (t t' : Option (List ℕ)) (result : Result (Unit {0}) ClientEnd)
-      → Asks getattr_result (getattr_call uid gid file) (bytes_at (known l)) (bytes_at (known m)) l.requester m.requester (Ok attributes)
+      → Asks getattr_result (getattr_call uid gid file) (view_at (known l)) (view_at (known m)) (Ok attributes)
       → source_faults m.source ≡ source_faults l.source → sink_faults m.sink ≡ sink_faults l.sink
       → r ≡ m.requester → source ≡ m.source → sink ≡ m.sink → read ≡ m.read
       → ((first : Outcome) → file_read (first ∷ []) ≡ SizeKnown attributes.size 0 []

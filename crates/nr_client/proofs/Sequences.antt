@@ -2,14 +2,13 @@
 use Rattle.std.proofs.Common.{◌≡◌, ◌⊎◌, List, [], ◌∷◌, Result, Ok, Err, inl, inr, refl, sym, ap, subst, ◌∙◌}
 use Rattle.nr_reduce.specs.declared.call.Call.{Call}
 use Rattle.nr_reduce.specs.declared.call.Outcome.{Outcome}
-use Rattle.nr_requester.specs.RequesterState.{RequesterSide}
 use Rattle.nr_client.specs.declared.client_end.ClientEnd.{ClientEnd}
 use Rattle.nr_client.specs.declared.client_end.ClientEnd.TheVariants as client
 use Rattle.nr_client.specs.Following.{EndsWith, Follows, MakesCalls, Next, go_on}
 use Rattle.nr_client.specs.Following.Next.{Calls, Returns}
 use Rattle.nr_client.specs.Requests.{Asks}
 use Rattle.nr_client.specs.Results.{Gives}
-use Rattle.nr_client.specs.Transfers.{LinkBytes}
+use Rattle.nr_client.specs.Views.{LinkView}
 
 pub gives_itself : (A : Type 0) (end : ClientEnd) → Gives {A = A} (Err end) (Err end)
 gives_itself A client.DialFault = refl
@@ -42,22 +41,21 @@ given_end (client.Budget count) read gives = inr gives
 given_end client.Memory read gives = inl refl
 
 -- memory runs out at any moment
-out_at : {A : Type 0} (next : Next A) (b : LinkBytes) (h : RequesterSide) → EndsWith next b b h h (Err client.Memory)
-out_at (Calls call) b h = (client.Memory, (refl, inr (refl, (refl, refl))))
-out_at (Returns answer) b h = (tt, (refl, refl))
+out_at : {A : Type 0} (next : Next A) (b : LinkView) → EndsWith next b b (Err client.Memory)
+out_at (Calls call) b = (client.Memory, (refl, inr (refl, refl)))
+out_at (Returns answer) b = (tt, refl)
 
-pub runs_out : {A : Type 0} (request : List Outcome → Next A) (b : LinkBytes) (h : RequesterSide) → Follows request b b h h (Err client.Memory)
-runs_out request b h = record { outcomes = []; between = b; side = h; made = (refl, refl); ends = out_at (request []) b h }
+pub runs_out : {A : Type 0} (request : List Outcome → Next A) (b : LinkView) → Follows request b b (Err client.Memory)
+runs_out request b = record { outcomes = []; between = b; made = refl; ends = out_at (request []) b }
 
 -- a request that has its result
-pub returns_at_once : {A : Type 0} (request : List Outcome → Next A) (answer result : Result A ClientEnd) (b : LinkBytes) (h : RequesterSide)
-    → request [] ≡ Returns answer → Gives result answer → Follows request b b h h result
-returns_at_once {A} request answer result b h is gives = record {
+pub returns_at_once : {A : Type 0} (request : List Outcome → Next A) (answer result : Result A ClientEnd) (b : LinkView)
+    → request [] ≡ Returns answer → Gives result answer → Follows request b b result
+returns_at_once {A} request answer result b is gives = record {
   outcomes = [];
   between = b;
-  side = h;
-  made = (refl, refl);
-  ends = subst (λ (next : Next A). EndsWith next b b h h result) (sym is) (gives, (refl, refl));
+  made = refl;
+  ends = subst (λ (next : Next A). EndsWith next b b result) (sym is) (gives, refl);
 }
 
 -- after a first call the request goes on with what its outcome is read as
@@ -66,63 +64,59 @@ Follow {A} request reads next = (outcome : Outcome) → ◌≡◌ {A = List Outc
 
 -- A call was answered, and read as a value; then the request goes on with what follows from that.
 pub goes_on : {A B : Type 0} (request : List Outcome → Next A) (call : Call) (reads : Outcome → Result B ClientEnd) (next : B → List Outcome → Next A) (value : B)
-    (b c d : LinkBytes) (h i j : RequesterSide) (result : Result A ClientEnd)
+    (b c d : LinkView) (result : Result A ClientEnd)
     → request [] ≡ Calls call → Follow request reads next
-    → Asks reads call b c h i (Ok value) → Follows (next value) c d i j result → Follows request b d h j result
-goes_on {A} {B} request call reads next value b c d h i j result first later (inl (outcome, (answers, gives))) rest =
+    → Asks reads call b c (Ok value) → Follows (next value) c d result → Follows request b d result
+goes_on {A} {B} request call reads next value b c d result first later (inl (outcome, (answers, gives))) rest =
     let same : ◌≡◌ {A = List Outcome → Next A} (λ later. request (outcome ∷ later)) (next value) =
     later outcome ∙ ap (λ (r : Result B ClientEnd). λ (outcomes : List Outcome). go_on r (λ v. next v outcomes)) gives in
     record {
       outcomes = outcome ∷ rest.outcomes;
       between = rest.between;
-      side = rest.side;
-      made = (call, c, i, (first, (answers, subst (λ (f : List Outcome → Next A). MakesCalls f rest.outcomes c rest.between i rest.side) (sym same) rest.made)));
-      ends = subst (λ (f : List Outcome → Next A). EndsWith (f rest.outcomes) rest.between d rest.side j result) (sym same) rest.ends;
+      made = (call, c, (first, (answers, subst (λ (f : List Outcome → Next A). MakesCalls f rest.outcomes c rest.between) (sym same) rest.made)));
+      ends = subst (λ (f : List Outcome → Next A). EndsWith (f rest.outcomes) rest.between d result) (sym same) rest.ends;
     }
-goes_on request call reads next value b c d h i j result first later (inr (inl (cause, (is, given_up)))) rest = absurd (let wrong : Ok value ≡ Err (client.Link cause) = is in cc)
-goes_on request call reads next value b c d h i j result first later (inr (inr (is, same))) rest = absurd (let wrong : Ok value ≡ Err client.Memory = is in cc)
+goes_on request call reads next value b c d result first later (inr (inl (cause, (is, given_up)))) rest = absurd (let wrong : Ok value ≡ Err (client.Link cause) = is in cc)
+goes_on request call reads next value b c d result first later (inr (inr (is, same))) rest = absurd (let wrong : Ok value ≡ Err client.Memory = is in cc)
 
 -- the end of a call that has no result
 abbrev pub end_of : {A : Type 0} → Result A ClientEnd → ClientEnd
 end_of (Ok value) = client.Memory
 end_of (Err end) = end
 
-ended : {A B : Type 0} (end : ClientEnd) (next : Next A) (read : Result B ClientEnd) (more : B → Next A) (b : LinkBytes) (h : RequesterSide)
-    → next ≡ go_on read more → (end ≡ client.Memory) ⊎ (read ≡ Err end) → EndsWith next b b h h (Err end)
-ended {A} end next read more b h is (inl out) = subst (λ (e : ClientEnd). EndsWith next b b h h (Err e)) (sym out) (out_at next b h)
-ended {A} {B} end next read more b h is (inr failed) =
+ended : {A B : Type 0} (end : ClientEnd) (next : Next A) (read : Result B ClientEnd) (more : B → Next A) (b : LinkView)
+    → next ≡ go_on read more → (end ≡ client.Memory) ⊎ (read ≡ Err end) → EndsWith next b b (Err end)
+ended {A} end next read more b is (inl out) = subst (λ (e : ClientEnd). EndsWith next b b (Err e)) (sym out) (out_at next b)
+ended {A} {B} end next read more b is (inr failed) =
     let returns : next ≡ Returns (Err end) = is ∙ ap (λ (r : Result B ClientEnd). go_on r more) failed in
-    subst (λ (n : Next A). EndsWith n b b h h (Err end)) (sym returns) (gives_itself A end, (refl, refl))
+    subst (λ (n : Next A). EndsWith n b b (Err end)) (sym returns) (gives_itself A end, refl)
 
 -- A call was made and had no result, or it has no answer: so the request has none.
 pub ends_there : {A B : Type 0} (request : List Outcome → Next A) (call : Call) (reads : Outcome → Result B ClientEnd) (next : B → List Outcome → Next A) (end : ClientEnd)
-    (b c : LinkBytes) (h i : RequesterSide)
+    (b c : LinkView)
     → request [] ≡ Calls call → Follow request reads next
-    → Asks reads call b c h i (Err end) → Follows request b c h i (Err end)
-ends_there {A} {B} request call reads next end b c h i first later (inl (outcome, (answers, gives))) = record {
+    → Asks reads call b c (Err end) → Follows request b c (Err end)
+ends_there {A} {B} request call reads next end b c first later (inl (outcome, (answers, gives))) = record {
   outcomes = outcome ∷ [];
   between = c;
-  side = i;
-  made = (call, c, i, (first, (answers, (refl, refl))));
-  ends = ended end (request (outcome ∷ [])) (reads outcome) (λ v. next v []) c i (ap (λ (f : List Outcome → Next A). f []) (later outcome)) (given_end end (reads outcome) gives);
+  made = (call, c, (first, (answers, refl)));
+  ends = ended end (request (outcome ∷ [])) (reads outcome) (λ v. next v []) c (ap (λ (f : List Outcome → Next A). f []) (later outcome)) (given_end end (reads outcome) gives);
 }
-ends_there {A} {B} request call reads next end b c h i first later (inr (inl (cause, (is, given_up)))) = record {
+ends_there {A} {B} request call reads next end b c first later (inr (inl (cause, (is, given_up)))) = record {
   outcomes = [];
   between = b;
-  side = h;
-  made = (refl, refl);
-  ends = subst (λ (n : Next A). EndsWith n b c h i (Err end)) (sym first) (end, (refl, inl (cause, (ap (λ (r : Result B ClientEnd). end_of r) is, given_up))));
+  made = refl;
+  ends = subst (λ (n : Next A). EndsWith n b c (Err end)) (sym first) (end, (refl, inl (cause, (ap (λ (r : Result B ClientEnd). end_of r) is, given_up))));
 }
-ends_there {A} {B} request call reads next end b c h i first later (inr (inr (is, same))) = record {
+ends_there {A} {B} request call reads next end b c first later (inr (inr (is, same))) = record {
   outcomes = [];
   between = b;
-  side = h;
-  made = (refl, refl);
-  ends = subst (λ (n : Next A). EndsWith n b c h i (Err end)) (sym first) (end, (refl, inr (ap (λ (r : Result B ClientEnd). end_of r) is, same)));
+  made = refl;
+  ends = subst (λ (n : Next A). EndsWith n b c (Err end)) (sym first) (end, (refl, inr (ap (λ (r : Result B ClientEnd). end_of r) is, same)));
 }
 
 -- ---- What is left of a request
 
 -- However what is left of a request ends, the complete request ends so.
-abbrev pub LeadsTo : {A : Type 0} → (whole : List Outcome → Next A) (b : LinkBytes) (h : RequesterSide) (rest : List Outcome → Next A) (c : LinkBytes) (i : RequesterSide) → Type 0
-LeadsTo {A} whole b h rest c i = (d : LinkBytes) (j : RequesterSide) (result : Result A ClientEnd) → Follows rest c d i j result → Follows whole b d h j result
+abbrev pub LeadsTo : {A : Type 0} → (whole : List Outcome → Next A) (b : LinkView) (rest : List Outcome → Next A) (c : LinkView) → Type 0
+LeadsTo {A} whole b rest c = (d : LinkView) (result : Result A ClientEnd) → Follows rest c d result → Follows whole b d result

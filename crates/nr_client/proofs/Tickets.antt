@@ -6,6 +6,7 @@ use Rattle.nr_reduce.specs.declared.call.Call.{Call}
 use Rattle.nr_requester.specs.OpenCalls.{ClosesTicket, KeepsTickets, OpensTicket, open_call}
 use Rattle.nr_requester.specs.RequesterState.{RequesterSide, RequesterState}
 use Rattle.nr_client.specs.Calls.{ForgetsCall, ForgetsCalls}
+use Rattle.nr_client.specs.Views.{LinkView}
 use Rattle.nr_client.specs.private.OpenReads.{AreOpen}
 
 pub keeps_itself : (h i : RequesterSide) → i ≡ h → KeepsTickets h.state i.state
@@ -84,5 +85,5 @@ pub rest_open : (xid : ℕ) (r s : RequesterState) (xs xids : List ℕ) → xs �
 rest_open xid r s xs xids is closes are = open_after_first xid r s xids closes (subst (λ (l : List ℕ). AreOpen r l) is are)
 
 -- one more is forgotten
-pub forgets_first : (xid : ℕ) (xs xids : List ℕ) (h i j : RequesterSide) → xs ≡ xid ∷ xids → ForgetsCall xid h i → ForgetsCalls xids i j → ForgetsCalls xs h j
-forgets_first xid xs xids h i j is forgets rest = subst (λ (l : List ℕ). ForgetsCalls l h j) (sym is) (i, (forgets, rest))
+pub forgets_first : (xid : ℕ) (xs xids : List ℕ) (v w last : LinkView) → xs ≡ xid ∷ xids → ForgetsCall xid v w → ForgetsCalls xids w last → ForgetsCalls xs v last
+forgets_first xid xs xids v w last is forgets rest = subst (λ (l : List ℕ). ForgetsCalls l v last) (sym is) (w, (forgets, rest))

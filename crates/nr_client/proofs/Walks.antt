@@ -4,7 +4,6 @@ use Rattle.std.proofs.lemmas.List.{drop_all, drop_more, get_or-drop, take_all, t
 use Rattle.nr_nfs_res.specs.declared.lookup.LookupOk.{LookupOk}
 use Rattle.nr_reduce.specs.declared.call.Call.{Call}
 use Rattle.nr_reduce.specs.declared.call.Outcome.{Outcome}
-use Rattle.nr_requester.specs.RequesterState.{RequesterSide}
 use Rattle.nr_client.specs.declared.client_end.ClientEnd.{ClientEnd}
 use Rattle.nr_client.specs.declared.client_end.ClientEnd.TheVariants as client
 use Rattle.nr_client.specs.Following.{EndsWith, Follows, MakesCalls, Next, asking, go_on}
@@ -12,25 +11,25 @@ use Rattle.nr_client.specs.Following.Next.{Calls, Returns}
 use Rattle.nr_client.specs.Paths.{path_names}
 use Rattle.nr_client.specs.Requests.{Asks, lookup_call, lookup_result}
 use Rattle.nr_client.specs.Results.{Gives}
-use Rattle.nr_client.specs.Transfers.{LinkBytes}
+use Rattle.nr_client.specs.Views.{LinkView}
 use Rattle.nr_client.specs.Walking.{object_in, object_result, parent_along, parent_from, walk_from}
 use Rattle.nr_client.proofs.Sequences.{LeadsTo, end_of, ends_there, gives_itself, given_end, goes_on, returns_at_once, runs_out}
 
 -- the file handle in the results of a LOOKUP
-pub asks_object : (call : Call) (b c : LinkBytes) (h i : RequesterSide) (found : LookupOk) → Asks lookup_result call b c h i (Ok found) → Asks object_result call b c h i (Ok found.object)
-asks_object call b c h i found (inl (outcome, (answers, gives))) = inl (outcome, (answers, ap (λ (r : Result LookupOk ClientEnd). object_in r) gives))
-asks_object call b c h i found (inr (inl (cause, (is, given_up)))) = absurd (let wrong : Ok found ≡ Err (client.Link cause) = is in cc)
-asks_object call b c h i found (inr (inr (is, same))) = absurd (let wrong : Ok found ≡ Err client.Memory = is in cc)
+pub asks_object : (call : Call) (b c : LinkView) (found : LookupOk) → Asks lookup_result call b c (Ok found) → Asks object_result call b c (Ok found.object)
+asks_object call b c found (inl (outcome, (answers, gives))) = inl (outcome, (answers, ap (λ (r : Result LookupOk ClientEnd). object_in r) gives))
+asks_object call b c found (inr (inl (cause, (is, given_up)))) = absurd (let wrong : Ok found ≡ Err (client.Link cause) = is in cc)
+asks_object call b c found (inr (inr (is, same))) = absurd (let wrong : Ok found ≡ Err client.Memory = is in cc)
 
 no_object : (end : ClientEnd) (read : Result LookupOk ClientEnd) → (end ≡ client.Memory) ⊎ (read ≡ Err end) → Gives {A = List ℕ} (Err end) (object_in read)
 no_object end read (inl out) = subst (λ (e : ClientEnd). Gives {A = List ℕ} (Err e) (object_in read)) (sym out) tt
 no_object end read (inr failed) = subst (λ (r : Result LookupOk ClientEnd). Gives {A = List ℕ} (Err end) (object_in r)) (sym failed) (gives_itself (List ℕ) end)
 
-pub asks_no_object : (call : Call) (b c : LinkBytes) (h i : RequesterSide) (end : ClientEnd) → Asks lookup_result call b c h i (Err end) → Asks object_result call b c h i (Err end)
-asks_no_object call b c h i end (inl (outcome, (answers, gives))) = inl (outcome, (answers, no_object end (lookup_result outcome) (given_end end (lookup_result outcome) gives)))
-asks_no_object call b c h i end (inr (inl (cause, (is, given_up)))) =
+pub asks_no_object : (call : Call) (b c : LinkView) (end : ClientEnd) → Asks lookup_result call b c (Err end) → Asks object_result call b c (Err end)
+asks_no_object call b c end (inl (outcome, (answers, gives))) = inl (outcome, (answers, no_object end (lookup_result outcome) (given_end end (lookup_result outcome) gives)))
+asks_no_object call b c end (inr (inl (cause, (is, given_up)))) =
     inr (inl (cause, (ap (λ (r : Result LookupOk ClientEnd). Err (end_of r)) is, given_up)))
-asks_no_object call b c h i end (inr (inr (is, same))) =
+asks_no_object call b c end (inr (inr (is, same))) =
     inr (inr (ap (λ (r : Result LookupOk ClientEnd). Err (end_of r)) is, same))
 
 -- ---- From name to name
@@ -39,28 +38,28 @@ at_name : (names : List (List ℕ)) (index : ℕ) (name : List ℕ) → index < 
 at_name names index name inside is = drop_more names index name inside ∙ ap (λ (n : List ℕ). n ∷ drop (index + 1) names) (sym is)
 
 module _ (uid gid : ℕ) (whole : List Outcome → Next (List ℕ)) (dir : List ℕ) (names : List (List ℕ)) (index : ℕ) (name : List ℕ) (inside : index < length names) (is : name ≡ get_or names index name)
-    (b c d : LinkBytes) (h i j : RequesterSide) (so_far : LeadsTo whole b h (walk_from uid gid dir (drop index names)) c i) where
-  now : LeadsTo whole b h (walk_from uid gid dir (name ∷ drop (index + 1) names)) c i
-  now = subst (λ (left : List (List ℕ)). LeadsTo whole b h (walk_from uid gid dir left) c i) (at_name names index name inside is) so_far
+    (b c d : LinkView) (so_far : LeadsTo whole b (walk_from uid gid dir (drop index names)) c) where
+  now : LeadsTo whole b (walk_from uid gid dir (name ∷ drop (index + 1) names)) c
+  now = subst (λ (left : List (List ℕ)). LeadsTo whole b (walk_from uid gid dir left) c) (at_name names index name inside is) so_far
 
-  pub walk_goes_on : (object : List ℕ) → Asks object_result (lookup_call uid gid dir name) c d i j (Ok object) → LeadsTo whole b h (walk_from uid gid object (drop (index + 1) names)) d j
-  walk_goes_on object asks = λ e k result rest.
-      now e k result
+  pub walk_goes_on : (object : List ℕ) → Asks object_result (lookup_call uid gid dir name) c d (Ok object) → LeadsTo whole b (walk_from uid gid object (drop (index + 1) names)) d
+  walk_goes_on object asks = λ e result rest.
+      now e result
       (goes_on (walk_from uid gid dir (name ∷ drop (index + 1) names)) (lookup_call uid gid dir name) object_result (λ found. walk_from uid gid found (drop (index + 1) names))
-      object c d e i j k result refl (λ outcome. refl) asks rest)
+      object c d e result refl (λ outcome. refl) asks rest)
 
-  pub walk_stops : (end : ClientEnd) → Asks object_result (lookup_call uid gid dir name) c d i j (Err end) → Follows whole b d h j (Err end)
+  pub walk_stops : (end : ClientEnd) → Asks object_result (lookup_call uid gid dir name) c d (Err end) → Follows whole b d (Err end)
   walk_stops end asks =
-      now d j (Err end)
+      now d (Err end)
       (ends_there (walk_from uid gid dir (name ∷ drop (index + 1) names)) (lookup_call uid gid dir name) object_result (λ found. walk_from uid gid found (drop (index + 1) names))
-      end c d i j refl (λ outcome. refl) asks)
+      end c d refl (λ outcome. refl) asks)
 
-pub walk_ends : (uid gid : ℕ) (whole : List Outcome → Next (List ℕ)) (dir : List ℕ) (names : List (List ℕ)) (index : ℕ) (b c : LinkBytes) (h i : RequesterSide)
-    → length names ≤ index → LeadsTo whole b h (walk_from uid gid dir (drop index names)) c i → Follows whole b c h i (Ok dir)
-walk_ends uid gid whole dir names index b c h i over so_far =
+pub walk_ends : (uid gid : ℕ) (whole : List Outcome → Next (List ℕ)) (dir : List ℕ) (names : List (List ℕ)) (index : ℕ) (b c : LinkView)
+    → length names ≤ index → LeadsTo whole b (walk_from uid gid dir (drop index names)) c → Follows whole b c (Ok dir)
+walk_ends uid gid whole dir names index b c over so_far =
     let left : drop index names ≡ [] = drop_all index names over in
-    so_far c i (Ok dir)
-    (returns_at_once (walk_from uid gid dir (drop index names)) (Ok dir) (Ok dir) c i (ap (λ (ns : List (List ℕ)). walk_from uid gid dir ns []) left) refl)
+    so_far c (Ok dir)
+    (returns_at_once (walk_from uid gid dir (drop index names)) (Ok dir) (Ok dir) c (ap (λ (ns : List (List ℕ)). walk_from uid gid dir ns []) left) refl)
 
 -- ---- Up to the last name
 
@@ -93,17 +92,16 @@ parent_is uid gid at last (name ∷ front) dir (outcome ∷ later) =
     (λ object. parent_is uid gid at last front object later)
 
 made_with_last : (last : List ℕ) (down : List Outcome → Next (List ℕ)) (up : List Outcome → Next (List ℕ × List ℕ)) → ((outcomes : List Outcome) → up outcomes ≡ with_last last (down outcomes))
-    → (outcomes : List Outcome) (b c : LinkBytes) (h i : RequesterSide) → MakesCalls down outcomes b c h i → MakesCalls up outcomes b c h i
-made_with_last last down up same [] b c h i made = made
-made_with_last last down up same (outcome ∷ later) b c h i (call, d, j, (first, (answers, more))) = (
+    → (outcomes : List Outcome) (b c : LinkView) → MakesCalls down outcomes b c → MakesCalls up outcomes b c
+made_with_last last down up same [] b c made = made
+made_with_last last down up same (outcome ∷ later) b c (call, d, (first, (answers, more))) = (
   call,
   d,
-  j,
   (
     same [] ∙ ap (λ (next : Next (List ℕ)). with_last last next) first,
     (
       answers,
-      made_with_last last (λ outcomes. down (outcome ∷ outcomes)) (λ outcomes. up (outcome ∷ outcomes)) (λ outcomes. same (outcome ∷ outcomes)) later d c j i more,
+      made_with_last last (λ outcomes. down (outcome ∷ outcomes)) (λ outcomes. up (outcome ∷ outcomes)) (λ outcomes. same (outcome ∷ outcomes)) later d c more,
     ),
   ),
 )
@@ -116,56 +114,55 @@ gives_beside last (Err end) read gives = by (given_end end read gives)
     by (inl out) = subst (λ (e : ClientEnd). Gives {A = List ℕ × List ℕ} (Err e) (beside last read)) (sym out) tt
     by (inr failed) = subst (λ (r : Result (List ℕ) ClientEnd). Gives {A = List ℕ × List ℕ} (Err end) (beside last r)) (sym failed) (gives_itself (List ℕ × List ℕ) end)
 
-ends_with_last : (last : List ℕ) (next : Next (List ℕ)) (b c : LinkBytes) (h i : RequesterSide) (result : Result (List ℕ) ClientEnd)
-    → EndsWith next b c h i result → EndsWith (with_last last next) b c h i (beside last result)
-ends_with_last last (Calls call) b c h i result (end, (is, unanswered)) = (end, (ap (λ (r : Result (List ℕ) ClientEnd). beside last r) is, unanswered))
-ends_with_last last (Returns answer) b c h i result (gives, same) = (gives_beside last result answer gives, same)
+ends_with_last : (last : List ℕ) (next : Next (List ℕ)) (b c : LinkView) (result : Result (List ℕ) ClientEnd)
+    → EndsWith next b c result → EndsWith (with_last last next) b c (beside last result)
+ends_with_last last (Calls call) b c result (end, (is, unanswered)) = (end, (ap (λ (r : Result (List ℕ) ClientEnd). beside last r) is, unanswered))
+ends_with_last last (Returns answer) b c result (gives, same) = (gives_beside last result answer gives, same)
 
 -- the names before the last were walked
-pub parent_follows : (uid gid at : ℕ) (last : List ℕ) (front : List (List ℕ)) (dir : List ℕ) (b c : LinkBytes) (h i : RequesterSide) (result : Result (List ℕ) ClientEnd)
-    → Follows (walk_from uid gid dir front) b c h i result → Follows (parent_along uid gid dir at (front ++ last ∷ [])) b c h i (beside last result)
-parent_follows uid gid at last front dir b c h i result walked = record {
+pub parent_follows : (uid gid at : ℕ) (last : List ℕ) (front : List (List ℕ)) (dir : List ℕ) (b c : LinkView) (result : Result (List ℕ) ClientEnd)
+    → Follows (walk_from uid gid dir front) b c result → Follows (parent_along uid gid dir at (front ++ last ∷ [])) b c (beside last result)
+parent_follows uid gid at last front dir b c result walked = record {
   outcomes = walked.outcomes;
   between = walked.between;
-  side = walked.side;
-  made = made_with_last last (walk_from uid gid dir front) (parent_along uid gid dir at (front ++ last ∷ [])) (parent_is uid gid at last front dir) walked.outcomes b walked.between h walked.side walked.made;
-  ends = subst (λ (next : Next (List ℕ × List ℕ)). EndsWith next walked.between c walked.side i (beside last result))
+  made = made_with_last last (walk_from uid gid dir front) (parent_along uid gid dir at (front ++ last ∷ [])) (parent_is uid gid at last front dir) walked.outcomes b walked.between walked.made;
+  ends = subst (λ (next : Next (List ℕ × List ℕ)). EndsWith next walked.between c (beside last result))
       (sym (parent_is uid gid at last front dir walked.outcomes))
-      (ends_with_last last (walk_from uid gid dir front walked.outcomes) walked.between c walked.side i result walked.ends);
+      (ends_with_last last (walk_from uid gid dir front walked.outcomes) walked.between c result walked.ends);
 }
 
 -- ---- The names of a path
 
-pub along : {A : Type 0} (path : List ℕ) (names : List (List ℕ)) (more : List (List ℕ) → List Outcome → Next A) (b c : LinkBytes) (h i : RequesterSide) (result : Result A ClientEnd)
-    → path_names path ≡ Ok names → Follows (more names) b c h i result → Follows (λ outcomes. go_on (path_names path) (λ ns. more ns outcomes)) b c h i result
-along {A} path names more b c h i result is follows =
-    subst (λ (request : List Outcome → Next A). Follows request b c h i result)
+pub along : {A : Type 0} (path : List ℕ) (names : List (List ℕ)) (more : List (List ℕ) → List Outcome → Next A) (b c : LinkView) (result : Result A ClientEnd)
+    → path_names path ≡ Ok names → Follows (more names) b c result → Follows (λ outcomes. go_on (path_names path) (λ ns. more ns outcomes)) b c result
+along {A} path names more b c result is follows =
+    subst (λ (request : List Outcome → Next A). Follows request b c result)
     (sym (ap (λ (r : Result (List (List ℕ)) ClientEnd). λ (outcomes : List Outcome). go_on r (λ ns. more ns outcomes)) is)) follows
 
-pub bad_path : {A : Type 0} (path : List ℕ) (end : ClientEnd) (more : List (List ℕ) → List Outcome → Next A) (b : LinkBytes) (h : RequesterSide)
-    → Gives {A = List (List ℕ)} (Err end) (path_names path) → Follows (λ outcomes. go_on (path_names path) (λ ns. more ns outcomes)) b b h h (Err end)
-bad_path {A} path end more b h gives = by (given_end end (path_names path) gives)
+pub bad_path : {A : Type 0} (path : List ℕ) (end : ClientEnd) (more : List (List ℕ) → List Outcome → Next A) (b : LinkView)
+    → Gives {A = List (List ℕ)} (Err end) (path_names path) → Follows (λ outcomes. go_on (path_names path) (λ ns. more ns outcomes)) b b (Err end)
+bad_path {A} path end more b gives = by (given_end end (path_names path) gives)
   where
-    by : (end ≡ client.Memory) ⊎ (path_names path ≡ Err end) → Follows (λ outcomes. go_on (path_names path) (λ ns. more ns outcomes)) b b h h (Err end)
+    by : (end ≡ client.Memory) ⊎ (path_names path ≡ Err end) → Follows (λ outcomes. go_on (path_names path) (λ ns. more ns outcomes)) b b (Err end)
     by (inl out) =
-        subst (λ (e : ClientEnd). Follows (λ outcomes. go_on (path_names path) (λ ns. more ns outcomes)) b b h h (Err e)) (sym out)
-        (runs_out (λ outcomes. go_on (path_names path) (λ ns. more ns outcomes)) b h)
+        subst (λ (e : ClientEnd). Follows (λ outcomes. go_on (path_names path) (λ ns. more ns outcomes)) b b (Err e)) (sym out)
+        (runs_out (λ outcomes. go_on (path_names path) (λ ns. more ns outcomes)) b)
     by (inr failed) =
-        returns_at_once (λ outcomes. go_on (path_names path) (λ ns. more ns outcomes)) (Err end) (Err end) b h
+        returns_at_once (λ outcomes. go_on (path_names path) (λ ns. more ns outcomes)) (Err end) (Err end) b
         (ap (λ (r : Result (List (List ℕ)) ClientEnd). go_on r (λ ns. more ns [])) failed) (gives_itself A end)
 
 -- no name is there
-pub no_parent : (uid gid at : ℕ) (dir : List ℕ) (names : List (List ℕ)) (b : LinkBytes) (h : RequesterSide) → length names ≡ 0 → Follows (parent_along uid gid dir at names) b b h h (Err (client.BadPath at))
-no_parent uid gid at dir [] b h none = returns_at_once (parent_along uid gid dir at []) (Err (client.BadPath at)) (Err (client.BadPath at)) b h refl refl
-no_parent uid gid at dir (name ∷ names) b h none = absurd (omega (arith, none))
+pub no_parent : (uid gid at : ℕ) (dir : List ℕ) (names : List (List ℕ)) (b : LinkView) → length names ≡ 0 → Follows (parent_along uid gid dir at names) b b (Err (client.BadPath at))
+no_parent uid gid at dir [] b none = returns_at_once (parent_along uid gid dir at []) (Err (client.BadPath at)) (Err (client.BadPath at)) b refl refl
+no_parent uid gid at dir (name ∷ names) b none = absurd (omega (arith, none))
 
 -- the names before the last one of these were walked
-pub parent_of : (uid gid at : ℕ) (dir : List ℕ) (names : List (List ℕ)) (n : ℕ) (front : List (List ℕ)) (last : List ℕ) (b c : LinkBytes) (h i : RequesterSide) (result : Result (List ℕ) ClientEnd)
-    → n + 1 ≡ length names → front ≡ take n names → last ≡ get_or names n last → Follows (walk_from uid gid dir front) b c h i result → Follows (parent_along uid gid dir at names) b c h i (beside last result)
-parent_of uid gid at dir names n front last b c h i result len before is walked =
+pub parent_of : (uid gid at : ℕ) (dir : List ℕ) (names : List (List ℕ)) (n : ℕ) (front : List (List ℕ)) (last : List ℕ) (b c : LinkView) (result : Result (List ℕ) ClientEnd)
+    → n + 1 ≡ length names → front ≡ take n names → last ≡ get_or names n last → Follows (walk_from uid gid dir front) b c result → Follows (parent_along uid gid dir at names) b c (beside last result)
+parent_of uid gid at dir names n front last b c result len before is walked =
     let whole : names ≡ take n names ++ get_or names n last ∷ [] = sym (take_all (n + 1) names (omega (arith, len))) ∙ take_more names n last (omega (arith, len)) in
     let parts : names ≡ front ++ last ∷ [] = whole ∙ (λ k. sym before k ++ sym is k ∷ []) in
-    subst (λ (ns : List (List ℕ)). Follows (parent_along uid gid dir at ns) b c h i (beside last result)) (sym parts) (parent_follows uid gid at last front dir b c h i result walked)
+    subst (λ (ns : List (List ℕ)). Follows (parent_along uid gid dir at ns) b c (beside last result)) (sym parts) (parent_follows uid gid at last front dir b c result walked)
 
 pub one_less : (n : ℕ) → (n ≡ 0 → ⊥) → n - 1 + 1 ≡ n
 one_less zero some = absurd (some refl)

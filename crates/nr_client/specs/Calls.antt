@@ -19,6 +19,7 @@ use Rattle.nr_requester.specs.Standing.{StandsOn}
 use Rattle.nr_client.specs.Ending.{LinkCause}
 use Rattle.nr_client.specs.Steps.{GoesTo, HasCreditLeft, HasWrittenAt, IsLeft, IsLive, IsOut, ReadsNone, WritesFirst, WritesInFull, WritesInFullTo}
 use Rattle.nr_client.specs.Transfers.{LinkBytes, Moves}
+use Rattle.nr_client.specs.Views.{LinkView}
 use Rattle.nr_client.specs.declared.call_end.CallEnd.{CallEnd}
 
 -- the marks up to a Submit, after bytes moved while the call waited for a credit
@@ -73,27 +74,30 @@ pub record IsForgotten (opened : LinkParameters) (link : ℕ) (run : List Mark) 
   pub left : IsLeft end opened link h' ahead (run_of_call run link call xid waits moved (marks.Forget link xid))
 
 -- It is submitted under this xid: the client's side of the link had not ended.
-abbrev pub Submits : (b b' : LinkBytes) (h h' : RequesterSide) → Call → ℕ → Type 0
-Submits b b' h h' call xid =
-    (h.state.side.ended ≡ None)
-    × ((opened : LinkParameters) (link : ℕ) (run : List Mark) → IsOpened opened → IsLive opened link h run → IsSubmitted opened link run b b' h h' call xid)
+abbrev pub Submits : (v w : LinkView) → Call → ℕ → Type 0
+Submits v w call xid =
+    (v.requester.state.side.ended ≡ None)
+    × ((opened : LinkParameters) (link : ℕ) (run : List Mark) → IsOpened opened → IsLive opened link v.requester run
+    → IsSubmitted opened link run v.bytes w.bytes v.requester w.requester call xid)
 
 -- It is not submitted, for this cause; nothing was read if a credit was left.
-abbrev pub RefusesToSubmit : (b b' : LinkBytes) (h h' : RequesterSide) → Call → CallEnd → Type 0
-RefusesToSubmit b b' h h' call end = GoesTo end b b' h h' × (HasCreditLeft h → ReadsNone b b')
+abbrev pub RefusesToSubmit : (v w : LinkView) → Call → CallEnd → Type 0
+RefusesToSubmit v w call end = GoesTo end v.bytes w.bytes v.requester w.requester × (HasCreditLeft v.requester → ReadsNone v.bytes w.bytes)
 
 -- It was answered: the client's side of the link had not ended when it was made.
-abbrev pub Answers : (b b' : LinkBytes) (h h' : RequesterSide) → Call → Outcome → Type 0
-Answers b b' h h' call outcome =
-    (h.state.side.ended ≡ None)
-    × ((opened : LinkParameters) (link : ℕ) (run : List Mark) → IsOpened opened → IsLive opened link h run → IsAnswered opened link run b b' h h' call outcome)
+abbrev pub Answers : (v w : LinkView) → Call → Outcome → Type 0
+Answers v w call outcome =
+    (v.requester.state.side.ended ≡ None)
+    × ((opened : LinkParameters) (link : ℕ) (run : List Mark) → IsOpened opened → IsLive opened link v.requester run
+    → IsAnswered opened link run v.bytes w.bytes v.requester w.requester call outcome)
 
 -- It has no answer: it was not submitted, and nothing was read if a credit was left; or it was forgotten at an end of the link.
-abbrev pub GivesUp : (b b' : LinkBytes) (h h' : RequesterSide) → Call → CallEnd → Type 0
-GivesUp b b' h h' call end =
-    RefusesToSubmit b b' h h' call end
-    ⊎ (LinkCause end b'.left b'.read h'
-    × ((opened : LinkParameters) (link : ℕ) (run : List Mark) → IsOpened opened → IsLive opened link h run → IsForgotten opened link run b b' h h' call end))
+abbrev pub GivesUp : (v w : LinkView) → Call → CallEnd → Type 0
+GivesUp v w call end =
+    RefusesToSubmit v w call end
+    ⊎ (LinkCause end w.bytes.left w.bytes.read w.requester
+    × ((opened : LinkParameters) (link : ℕ) (run : List Mark) → IsOpened opened → IsLive opened link v.requester run
+    → IsForgotten opened link run v.bytes w.bytes v.requester w.requester call end))
 
 -- ---- Its steps
 
@@ -108,25 +112,30 @@ HandsOver xid outcome h h' =
     (opened : LinkParameters) (link : ℕ) (run : List Mark) → IsLive opened link h run → IsLive opened link h' (run ++ marks.Done link xid outcome ∷ [])
 
 -- bytes moved, and then its outcome was handed over, or it was forgotten
-abbrev pub Completes : ℕ → Outcome → (b b' : LinkBytes) (h h' : RequesterSide) → Type 0
-Completes xid outcome b b' h h' =
-    (opened : LinkParameters) (link : ℕ) (run : List Mark) → IsOpened opened → IsLive opened link h run →
-    (moved : List Mark) × (Moves link b b' [] moved × (WritesFirst opened link run moved × (WritesInFull opened link run moved
-    × IsLive opened link h' ((run ++ moved) ++ marks.Done link xid outcome ∷ []))))
+abbrev pub Completes : ℕ → Outcome → (v w : LinkView) → Type 0
+Completes xid outcome v w =
+    (opened : LinkParameters) (link : ℕ) (run : List Mark) → IsOpened opened → IsLive opened link v.requester run →
+    (moved : List Mark) × (Moves link v.bytes w.bytes [] moved × (WritesFirst opened link run moved × (WritesInFull opened link run moved
+    × IsLive opened link w.requester ((run ++ moved) ++ marks.Done link xid outcome ∷ []))))
 
-abbrev pub Forgets : ℕ → CallEnd → (b b' : LinkBytes) (h h' : RequesterSide) → Type 0
-Forgets xid end b b' h h' =
-    (opened : LinkParameters) (link : ℕ) (run : List Mark) → IsOpened opened → IsLive opened link h run →
-    (moved : List Mark) × (ahead : List ℕ) × (Moves link b b' ahead moved × (WritesFirst opened link run moved × (WritesInFullTo end opened link run moved × (HasWrittenAt end opened link (run ++ moved)
-    × (NoneCame end opened link (run ++ moved) xid × IsLeft end opened link h' ahead ((run ++ moved) ++ marks.Forget link xid ∷ []))))))
+abbrev pub Forgets : ℕ → CallEnd → (v w : LinkView) → Type 0
+Forgets xid end v w =
+    (opened : LinkParameters) (link : ℕ) (run : List Mark) → IsOpened opened → IsLive opened link v.requester run →
+    (moved : List Mark) × (ahead : List ℕ) × (Moves link v.bytes w.bytes ahead moved × (WritesFirst opened link run moved × (WritesInFullTo end opened link run moved × (HasWrittenAt end opened link (run ++ moved)
+    × (NoneCame end opened link (run ++ moved) xid × IsLeft end opened link w.requester ahead ((run ++ moved) ++ marks.Forget link xid ∷ []))))))
 
--- the call of an xid is forgotten, whether or not its answer has come
-abbrev pub ForgetsCall : ℕ → (h h' : RequesterSide) → Type 0
-ForgetsCall xid h h' =
+-- a requester forgets the call of an xid
+abbrev pub AddsForget : ℕ → (h h' : RequesterSide) → Type 0
+AddsForget xid h h' =
     ((opened : LinkParameters) (link : ℕ) (run : List Mark) → IsLive opened link h run → IsLive opened link h' (run ++ marks.Forget link xid ∷ []))
     × ((opened : LinkParameters) (link : ℕ) (run : List Mark) → IsOut opened link h run → IsOut opened link h' (run ++ marks.Forget link xid ∷ []))
 
+-- the call of an xid is forgotten, whether or not its answer has come, and no byte moves
+abbrev pub ForgetsCall : ℕ → (v w : LinkView) → Type 0
+ForgetsCall xid v w =
+    AddsForget xid v.requester w.requester × ((w.bytes ≡ v.bytes) × ((w.source_faults ≡ v.source_faults) × (w.sink_faults ≡ v.sink_faults)))
+
 -- these calls are forgotten, one after another
-abbrev pub ForgetsCalls : List ℕ → (h h' : RequesterSide) → Type 0
-ForgetsCalls [] h h' = h' ≡ h
-ForgetsCalls (xid ∷ xids) h h' = (i : RequesterSide) × (ForgetsCall xid h i × ForgetsCalls xids i h')
+abbrev pub ForgetsCalls : List ℕ → (v w : LinkView) → Type 0
+ForgetsCalls [] v w = w ≡ v
+ForgetsCalls (xid ∷ xids) v w = (mid : LinkView) × (ForgetsCall xid v mid × ForgetsCalls xids mid w)

@@ -10,6 +10,7 @@ use Rattle.nr_reduce.specs.declared.call.Submission.TheVariants as submissions
 use Rattle.nr_links.specs.Limits.{read_max}
 use Rattle.nr_requester.specs.RequesterState.{RequesterSide, queue_of}
 use Rattle.nr_requester.specs.Answers.{answer_of}
+use Rattle.nr_client.specs.Views.{LinkView}
 use Rattle.nr_client.specs.declared.call_end.CallEnd.{CallEnd}
 use Rattle.nr_client.specs.declared.call_end.CallEnd.TheVariants as calls
 
@@ -31,6 +32,10 @@ IsCause (calls.Spent left_over need) left read h call = answer_of h.state call f
 IsCause (calls.TooLarge need room) left read h call = answer_of h.state call forms.Auto ≡ submissions.Refused (refusals.TooLarge need room)
 IsCause calls.Memory left read h call = ⊤
 IsCause end left read h call = LinkCause end left read h
+
+-- the cause of the end of a call over a link
+abbrev pub IsCauseIn : CallEnd → LinkView → Call → Type 0
+IsCauseIn end v call = IsCause end v.bytes.left v.bytes.read v.requester call
 
 -- a refusal of a call that may be submitted, and the end of the call then
 abbrev pub HasCredit : Refused → Type 0

@@ -2,14 +2,13 @@
 use Rattle.std.specs.Prelude.{◌≡◌, ◌⊎◌, List, [], ◌∷◌, Result, Ok, Err}
 use Rattle.nr_reduce.specs.declared.call.Call.{Call}
 use Rattle.nr_reduce.specs.declared.call.Outcome.{Outcome}
-use Rattle.nr_requester.specs.RequesterState.{RequesterSide}
 use Rattle.nr_client.specs.declared.client_end.ClientEnd.{ClientEnd}
 use Rattle.nr_client.specs.declared.client_end.ClientEnd.TheVariants as client
 use Rattle.nr_client.specs.declared.call_end.CallEnd.{CallEnd}
 use Rattle.nr_client.specs.Calls.{Answers, GivesUp}
-use Rattle.nr_client.specs.Ending.{IsCause}
+use Rattle.nr_client.specs.Ending.{IsCauseIn}
 use Rattle.nr_client.specs.Results.{Gives}
-use Rattle.nr_client.specs.Transfers.{LinkBytes}
+use Rattle.nr_client.specs.Views.{LinkView}
 
 -- what a request does next: it makes this call, or it has this result
 pub data Next (A : Type 0) : Type 0 where
@@ -28,27 +27,26 @@ asking call reads next (outcome ∷ later) = go_on (reads outcome) (λ value. ne
 
 -- A request is a function from the outcomes of its calls so far to what it does next. Its first calls were made, one after another, and
 -- answered with these outcomes.
-abbrev pub MakesCalls : {A : Type 0} → (List Outcome → Next A) → List Outcome → (b b' : LinkBytes) (h h' : RequesterSide) → Type 0
-MakesCalls request [] b b' h h' = (b' ≡ b) × (h' ≡ h)
-MakesCalls request (outcome ∷ outcomes) b b' h h' =
-    (call : Call) × (c : LinkBytes) × (i : RequesterSide) ×
-    ((request [] ≡ Calls call) × (Answers b c h i call outcome × MakesCalls (λ later. request (outcome ∷ later)) outcomes c b' i h'))
+abbrev pub MakesCalls : {A : Type 0} → (List Outcome → Next A) → List Outcome → (v w : LinkView) → Type 0
+MakesCalls request [] v w = w ≡ v
+MakesCalls request (outcome ∷ outcomes) v w =
+    (call : Call) × (mid : LinkView) ×
+    ((request [] ≡ Calls call) × (Answers v mid call outcome × MakesCalls (λ later. request (outcome ∷ later)) outcomes mid w))
 
 -- A call has no answer, for this cause; or memory ran out before it was made, and nothing changed.
-abbrev pub Unanswered : Call → (b b' : LinkBytes) (h h' : RequesterSide) → ClientEnd → Type 0
-Unanswered call b b' h h' end =
-    ((cause : CallEnd) × ((end ≡ client.Link cause) × (GivesUp b b' h h' call cause × IsCause cause b'.left b'.read h' call)))
-    ⊎ ((end ≡ client.Memory) × ((b' ≡ b) × (h' ≡ h)))
+abbrev pub Unanswered : Call → (v w : LinkView) → ClientEnd → Type 0
+Unanswered call v w end =
+    ((cause : CallEnd) × ((end ≡ client.Link cause) × (GivesUp v w call cause × IsCauseIn cause w call)))
+    ⊎ ((end ≡ client.Memory) × (w ≡ v))
 
 -- Then it ends: with its result, unless memory ran out; or its next call has no answer.
-abbrev pub EndsWith : {A : Type 0} → Next A → (b b' : LinkBytes) (h h' : RequesterSide) → Result A ClientEnd → Type 0
-EndsWith (Returns result) b b' h h' given = Gives given result × ((b' ≡ b) × (h' ≡ h))
-EndsWith (Calls call) b b' h h' given = (end : ClientEnd) × ((given ≡ Err end) × Unanswered call b b' h h' end)
+abbrev pub EndsWith : {A : Type 0} → Next A → (v w : LinkView) → Result A ClientEnd → Type 0
+EndsWith (Returns result) v w given = Gives given result × (w ≡ v)
+EndsWith (Calls call) v w given = (end : ClientEnd) × ((given ≡ Err end) × Unanswered call v w end)
 
 -- A request was made: its calls in order, and it ended so.
-pub record Follows {A : Type 0} (request : List Outcome → Next A) (b b' : LinkBytes) (h h' : RequesterSide) (given : Result A ClientEnd) : Type 0 where
+pub record Follows {A : Type 0} (request : List Outcome → Next A) (v w : LinkView) (given : Result A ClientEnd) : Type 0 where
   pub outcomes : List Outcome
-  pub between : LinkBytes
-  pub side : RequesterSide
-  pub made : MakesCalls request outcomes b between h side
-  pub ends : EndsWith (request outcomes) between b' side h' given
+  pub between : LinkView
+  pub made : MakesCalls request outcomes v between
+  pub ends : EndsWith (request outcomes) between w given

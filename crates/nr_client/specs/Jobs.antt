@@ -25,7 +25,7 @@ use Rattle.nr_client.specs.LinkParts.{LinkParts}
 use Rattle.nr_client.specs.Reading.{EndsAtReply, TakesRead, piece_left, read_call, reading}
 use Rattle.nr_client.specs.Requests.{Asks, SinkFaults, SourceFaults, getattr_call, getattr_result}
 use Rattle.nr_client.specs.Shared.{shared_end}
-use Rattle.nr_client.specs.Transfers.{LinkBytes, link_bytes}
+use Rattle.nr_client.specs.Views.{LinkView, link_view}
 
 -- the most jobs of a request
 abbrev pub jobs_max : ℕ
@@ -92,19 +92,20 @@ LinkAt = LinkParts SourceAt SinkAt
 abbrev pub link_at : RequesterSide → SourceAt → SinkAt → ℕ → LinkAt
 link_at requester source sink read = record { requester = requester; source = source; sink = sink; read = read }
 
-abbrev pub bytes_at : LinkAt → LinkBytes
-bytes_at link = link_bytes link.source.left link.source.given link.sink.taken link.read
+-- how a session sees it
+abbrev pub view_at : LinkAt → LinkView
+view_at link = link_view link.source.left link.source.given link.sink.taken link.read link.requester link.source.faults link.sink.faults
 
 -- GETATTR of a file was answered over a link with this outcome, which gives these attributes. No fault count rose.
 pub record GetsAttributes (uid gid : ℕ) (file : List ℕ) (outcome : Outcome) (attributes : Attributes) (link link' : LinkAt) : Type 0 where
-  pub answers : Answers (bytes_at link) (bytes_at link') link.requester link'.requester (getattr_call uid gid file) outcome
+  pub answers : Answers (view_at link) (view_at link') (getattr_call uid gid file) outcome
   pub gives : getattr_result outcome ≡ Ok attributes
   pub source_count : link'.source.faults ≡ link.source.faults
   pub sink_count : link'.sink.faults ≡ link.sink.faults
 
 -- GETATTR has no answer over a link, or its result is this end; or memory ran out. The fault counts rise only if it has no answer for that.
 pub record GetsNoAttributes (uid gid : ℕ) (file : List ℕ) (end : ClientEnd) (link link' : LinkAt) : Type 0 where
-  pub asks : Asks getattr_result (getattr_call uid gid file) (bytes_at link) (bytes_at link') link.requester link'.requester (Err end)
+  pub asks : Asks getattr_result (getattr_call uid gid file) (view_at link) (view_at link') (Err end)
   pub source_count : SourceFaults {A = Attributes} (Err end) link.source.faults link'.source.faults
   pub sink_count : SinkFaults {A = Attributes} (Err end) link.sink.faults link'.sink.faults
 

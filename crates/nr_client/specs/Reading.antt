@@ -18,18 +18,17 @@ use Rattle.nr_outside.specs.Faults.{Rises}
 use Rattle.nr_reduce.specs.declared.call.Call.{Call}
 use Rattle.nr_reduce.specs.declared.call.Outcome.{Outcome}
 use Rattle.nr_reduce.specs.declared.call.Outcome.TheVariants as outcomes
-use Rattle.nr_requester.specs.RequesterState.{RequesterSide}
 use Rattle.nr_client.specs.declared.client_end.ClientEnd.{ClientEnd}
 use Rattle.nr_client.specs.declared.client_end.ClientEnd.TheVariants as client
 use Rattle.nr_client.specs.declared.call_end.CallEnd.{CallEnd}
 use Rattle.nr_client.specs.Calls.{Answers, Completes, Forgets, ForgetsCalls, RefusesToSubmit, Submits}
-use Rattle.nr_client.specs.Ending.{IsCause, LinkCause}
+use Rattle.nr_client.specs.Ending.{IsCauseIn, LinkCause}
 use Rattle.nr_client.specs.Following.{Next, Unanswered}
 use Rattle.nr_client.specs.Following.Next.{Calls, Returns}
 use Rattle.nr_client.specs.Listing.{no_progress}
 use Rattle.nr_client.specs.Requests.{client_call, getattr_call, getattr_result, nfs_reads}
 use Rattle.nr_client.specs.Steps.{HasCreditLeft, LacksCredit}
-use Rattle.nr_client.specs.Transfers.{LinkBytes}
+use Rattle.nr_client.specs.Views.{LinkView}
 
 -- ---- READ (RFC 1813 section 3.3.6)
 
@@ -134,11 +133,10 @@ xids_of reads = map (λ (read : OpenRead). read.xid) reads
 pub record ReadingAt : Type 0 where
   pub outcomes : List Outcome
   pub waiting : List OpenRead
-  pub bytes : LinkBytes
-  pub side : RequesterSide
+  pub link : LinkView
 
-abbrev pub starts_at : LinkBytes → RequesterSide → ReadingAt
-starts_at b h = record { outcomes = []; waiting = []; bytes = b; side = h }
+abbrev pub starts_at : LinkView → ReadingAt
+starts_at v = record { outcomes = []; waiting = []; link = v }
 
 -- where the piece begins that comes after these READs, each of what is left of its piece
 abbrev pub offset_ahead : (size at : ℕ) → List OpenRead → ℕ
@@ -171,21 +169,21 @@ reads_max = 2
 -- The READ of a piece is submitted while fewer than the maximum are outstanding, if a call may be submitted. If none is outstanding, it waits for that.
 abbrev pub IsMadeAhead : (uid gid : ℕ) → (file : List ℕ) → ReadingAt → Call → Type 0
 IsMadeAhead uid gid file s call =
-    (is_at_piece (file_read s.outcomes) ≡ true) × ((read_ahead uid gid file (file_read s.outcomes) s.waiting ≡ Some call) × ((s.waiting ≡ []) ⊎ (HasCreditLeft s.side × (length s.waiting < reads_max))))
+    (is_at_piece (file_read s.outcomes) ≡ true) × ((read_ahead uid gid file (file_read s.outcomes) s.waiting ≡ Some call) × ((s.waiting ≡ []) ⊎ (HasCreditLeft s.link.requester × (length s.waiting < reads_max))))
 
 -- no call may be submitted, or a READ of each piece up to the size is outstanding, or the maximum of READs is
 abbrev pub NoneIsMadeAhead : (uid gid : ℕ) → (file : List ℕ) → ReadingAt → Type 0
-NoneIsMadeAhead uid gid file s = (read_ahead uid gid file (file_read s.outcomes) s.waiting ≡ None) ⊎ (LacksCredit s.side ⊎ (reads_max ≤ length s.waiting))
+NoneIsMadeAhead uid gid file s = (read_ahead uid gid file (file_read s.outcomes) s.waiting ≡ None) ⊎ (LacksCredit s.link.requester ⊎ (reads_max ≤ length s.waiting))
 
 -- A step: a call was made alone; or a READ was submitted ahead; or, when none is, the oldest READ was answered, which is the one that follows from
 -- the replies before.
 pub data ReadStep (uid gid : ℕ) (file : List ℕ) (s t : ReadingAt) : Type 0 where
-  MakesAlone : (call : Call) (outcome : Outcome) → IsMadeAlone uid gid file s call → Answers s.bytes t.bytes s.side t.side call outcome
+  MakesAlone : (call : Call) (outcome : Outcome) → IsMadeAlone uid gid file s call → Answers s.link t.link call outcome
       → t.outcomes ≡ s.outcomes ++ outcome ∷ [] → t.waiting ≡ s.waiting → ReadStep uid gid file s t
-  AsksAhead : (read : OpenRead) → IsMadeAhead uid gid file s read.call → Submits s.bytes t.bytes s.side t.side read.call read.xid
+  AsksAhead : (read : OpenRead) → IsMadeAhead uid gid file s read.call → Submits s.link t.link read.call read.xid
       → t.outcomes ≡ s.outcomes → t.waiting ≡ s.waiting ++ read ∷ [] → ReadStep uid gid file s t
   TakesOldest : (read : OpenRead) (outcome : Outcome) → NoneIsMadeAhead uid gid file s → reading uid gid file s.outcomes ≡ Calls read.call
-      → Completes read.xid outcome s.bytes t.bytes s.side t.side → t.outcomes ≡ s.outcomes ++ outcome ∷ [] → s.waiting ≡ read ∷ t.waiting → ReadStep uid gid file s t
+      → Completes read.xid outcome s.link t.link → t.outcomes ≡ s.outcomes ++ outcome ∷ [] → s.waiting ≡ read ∷ t.waiting → ReadStep uid gid file s t
 
 -- Steps lead from one state to another, by these states between, the last one first.
 abbrev pub LeadsBy : (uid gid : ℕ) → (file : List ℕ) → (first : ReadingAt) → List ReadingAt → (last : ReadingAt) → Type 0
@@ -216,30 +214,30 @@ EndsAtReply uid gid file outcomes taken taken' given =
 
 -- How it ends after these replies, with these READs still outstanding: with its result, or memory ran out; or the output failed; or the next call
 -- has no answer, or could not be submitted; or the oldest READ has no answer, and is forgotten.
-pub data EndsReading (uid gid : ℕ) (file : List ℕ) (s : ReadingAt) (left : List OpenRead) (b : LinkBytes) (h : RequesterSide) (taken taken' : Option (List ℕ)) (given : Result (Unit {0}) ClientEnd) : Type 0 where
-  EndsByReplies : (b ≡ s.bytes) × (h ≡ s.side) → (given ≡ Err client.Memory) ⊎ (reading uid gid file s.outcomes ≡ Returns given)
-      → left ≡ s.waiting → TakesRead given s.outcomes taken taken' → EndsReading uid gid file s left b h taken taken' given
-  OutputFails : given ≡ Err client.OutputFault → (b ≡ s.bytes) × (h ≡ s.side) → left ≡ s.waiting → TakesPart s.outcomes taken taken'
-      → EndsReading uid gid file s left b h taken taken' given
-  NotAnswered : (call : Call) (end : ClientEnd) → IsMadeAlone uid gid file s call → given ≡ Err end → Unanswered call s.bytes b s.side h end → left ≡ s.waiting
-      → TakesRead given s.outcomes taken taken' → EndsReading uid gid file s left b h taken taken' given
+pub data EndsReading (uid gid : ℕ) (file : List ℕ) (s : ReadingAt) (left : List OpenRead) (w : LinkView) (taken taken' : Option (List ℕ)) (given : Result (Unit {0}) ClientEnd) : Type 0 where
+  EndsByReplies : w ≡ s.link → (given ≡ Err client.Memory) ⊎ (reading uid gid file s.outcomes ≡ Returns given)
+      → left ≡ s.waiting → TakesRead given s.outcomes taken taken' → EndsReading uid gid file s left w taken taken' given
+  OutputFails : given ≡ Err client.OutputFault → w ≡ s.link → left ≡ s.waiting → TakesPart s.outcomes taken taken'
+      → EndsReading uid gid file s left w taken taken' given
+  NotAnswered : (call : Call) (end : ClientEnd) → IsMadeAlone uid gid file s call → given ≡ Err end → Unanswered call s.link w end → left ≡ s.waiting
+      → TakesRead given s.outcomes taken taken' → EndsReading uid gid file s left w taken taken' given
   NotSubmitted : (call : Call) (end : CallEnd) → IsMadeAhead uid gid file s call → given ≡ Err (client.Link end)
-      → RefusesToSubmit s.bytes b s.side h call end × IsCause end b.left b.read h call → left ≡ s.waiting
-      → TakesRead given s.outcomes taken taken' → EndsReading uid gid file s left b h taken taken' given
+      → RefusesToSubmit s.link w call end × IsCauseIn end w call → left ≡ s.waiting
+      → TakesRead given s.outcomes taken taken' → EndsReading uid gid file s left w taken taken' given
   OldestForgotten : (read : OpenRead) (end : CallEnd) → NoneIsMadeAhead uid gid file s → reading uid gid file s.outcomes ≡ Calls read.call → given ≡ Err (client.Link end)
-      → Forgets read.xid end s.bytes b s.side h × LinkCause end b.left b.read h → s.waiting ≡ read ∷ left
-      → TakesRead given s.outcomes taken taken' → EndsReading uid gid file s left b h taken taken' given
+      → Forgets read.xid end s.link w × LinkCause end w.bytes.left w.bytes.read w.requester → s.waiting ≡ read ∷ left
+      → TakesRead given s.outcomes taken taken' → EndsReading uid gid file s left w taken taken' given
 
 -- A file was read into an output: its calls were made, several at a time, and the bytes of their replies were written in order. At an end
 -- the READs that are still outstanding are forgotten.
-pub record ReadsFile (uid gid : ℕ) (file : List ℕ) (b b' : LinkBytes) (h h' : RequesterSide) (taken taken' : Option (List ℕ)) (given : Result (Unit {0}) ClientEnd) : Type 0 where
+pub record ReadsFile (uid gid : ℕ) (file : List ℕ) (v w : LinkView) (taken taken' : Option (List ℕ)) (given : Result (Unit {0}) ClientEnd) : Type 0 where
   pub between : List ReadingAt
   pub last : ReadingAt
-  pub made : LeadsBy uid gid file (starts_at b h) between last
+  pub made : LeadsBy uid gid file (starts_at v) between last
   pub left : List OpenRead
-  pub side : RequesterSide
-  pub ends : EndsReading uid gid file last left b' side taken taken' given
-  pub forgets : ForgetsCalls (xids_of left) side h'
+  pub ended : LinkView
+  pub ends : EndsReading uid gid file last left ended taken taken' given
+  pub forgets : ForgetsCalls (xids_of left) ended w
 
 -- the fault count of the output rises at OutputFault alone, and that of an input at InputFault alone
 abbrev pub OutputFaults : {A : Type 0} → Result A ClientEnd → ℕ → ℕ → Type 0

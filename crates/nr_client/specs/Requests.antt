@@ -30,14 +30,13 @@ use Rattle.nr_nfs_res.specs.Mount.{mount_ok_codec}
 use Rattle.nr_nfs_res.specs.declared.mount.MountOk.{MountOk}
 use Rattle.nr_reduce.specs.declared.call.Call.{Call}
 use Rattle.nr_reduce.specs.declared.call.Outcome.{Outcome}
-use Rattle.nr_requester.specs.RequesterState.{RequesterSide}
 use Rattle.nr_client.specs.declared.client_end.ClientEnd.{ClientEnd}
 use Rattle.nr_client.specs.declared.client_end.ClientEnd.TheVariants as client
 use Rattle.nr_client.specs.declared.call_end.CallEnd.{CallEnd}
 use Rattle.nr_client.specs.Calls.{Answers, GivesUp}
-use Rattle.nr_client.specs.Ending.{IsCause, SinkCountAt, SourceCountAt}
+use Rattle.nr_client.specs.Ending.{IsCauseIn, SinkCountAt, SourceCountAt}
 use Rattle.nr_client.specs.Results.{Gives, mount_done, nfs_done, result_of_outcome}
-use Rattle.nr_client.specs.Transfers.{LinkBytes}
+use Rattle.nr_client.specs.Views.{LinkView}
 
 -- the credential of each call (RFC 5531 appendix A): stamp 0, machine "nfsrdma", and no further groups
 abbrev pub machine : List ℕ
@@ -115,11 +114,11 @@ mnt_result outcome = handle_of (mount_done (result_of_outcome (status_union_code
 
 -- A request was made: its call was answered, and its result is what the outcome is read as; or the call has no answer; or memory ran out before
 -- it was made, and nothing changed.
-abbrev pub Asks : {A : Type 0} → (Outcome → Result A ClientEnd) → Call → (b b' : LinkBytes) (h h' : RequesterSide) → Result A ClientEnd → Type 0
-Asks reads call b b' h h' result =
-    ((outcome : Outcome) × (Answers b b' h h' call outcome × Gives result (reads outcome)))
-    ⊎ (((end : CallEnd) × ((result ≡ Err (client.Link end)) × (GivesUp b b' h h' call end × IsCause end b'.left b'.read h' call)))
-    ⊎ ((result ≡ Err client.Memory) × ((b' ≡ b) × (h' ≡ h))))
+abbrev pub Asks : {A : Type 0} → (Outcome → Result A ClientEnd) → Call → (v w : LinkView) → Result A ClientEnd → Type 0
+Asks reads call v w result =
+    ((outcome : Outcome) × (Answers v w call outcome × Gives result (reads outcome)))
+    ⊎ (((end : CallEnd) × ((result ≡ Err (client.Link end)) × (GivesUp v w call end × IsCauseIn end w call)))
+    ⊎ ((result ≡ Err client.Memory) × (w ≡ v)))
 
 -- the fault counts of the source and of the sink rise only if a call has no answer for that
 abbrev pub SourceFaults : {A : Type 0} → Result A ClientEnd → ℕ → ℕ → Type 0

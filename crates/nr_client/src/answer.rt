@@ -22,9 +22,9 @@ pub(crate) fn outcome_of<L: Calls>(
 ) -> Result<Outcome, ClientEnd>
     requires { IfOk call (λ c. CanWriteCred c.cred) }
     ensures ok { (asked : Call) → IfOk call (λ c. c ≡ asked) → IfOk result (λ outcome. Answers
-        (L.at link.old).bytes (L.at link.new).bytes (L.at link.old).requester (L.at link.new).requester asked outcome) }
+        (L.at link.old) (L.at link.new) asked outcome) }
     ensures err { (asked : Call) → IfOk call (λ c. c ≡ asked) → IfErr result (λ end. Unanswered asked
-        (L.at link.old).bytes (L.at link.new).bytes (L.at link.old).requester (L.at link.new).requester end) }
+        (L.at link.old) (L.at link.new) end) }
     ensures memory { OnOk result ((L.at link.new).requester.state.side.ended ≢ Some ends.Memory) }
     ensures of_call { IfErr result IsOfCall }
     ensures tickets { KeepsTickets (L.at link.old).requester.state (L.at link.new).requester.state }

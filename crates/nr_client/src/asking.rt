@@ -26,7 +26,7 @@ pub(crate) fn mount_over<L: Calls>(
     export: &MountPath,
 ) -> Result<Handle, ClientEnd>
     ensures asks { Asks mnt_result (mnt_call uid gid export.now)
-        (L.at link.old).bytes (L.at link.new).bytes (L.at link.old).requester (L.at link.new).requester result }
+        (L.at link.old) (L.at link.new) result }
     ensures source_faults { SourceFaults result (L.at link.old).source_faults (L.at link.new).source_faults }
     ensures sink_faults { SinkFaults result (L.at link.old).sink_faults (L.at link.new).sink_faults }
 {
@@ -45,7 +45,7 @@ pub(crate) fn ask_nfs<L: Calls, D: Xdr, F: Xdr>(
 ) -> Result<D, ClientEnd>
     requires { IfOk call (λ c. CanWriteCred c.cred) }
     ensures asks { (asked : Call) → IfOk call (λ c. c ≡ asked) → Asks (nfs_reads D.codec F.codec) asked
-        (L.at link.old).bytes (L.at link.new).bytes (L.at link.old).requester (L.at link.new).requester result }
+        (L.at link.old) (L.at link.new) result }
     ensures memory { OnOk result ((L.at link.new).requester.state.side.ended ≢ Some ends.Memory) }
     ensures of_call { IfErr result IsOfCall }
     ensures source_faults { SourceFaults result (L.at link.old).source_faults (L.at link.new).source_faults }

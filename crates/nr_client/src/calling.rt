@@ -1,6 +1,6 @@
 //! A call over a link.
 
-ghost use Rattle.std.specs.Prelude.{◌≡◌, ◌≢◌, ◌<◌, ◌≤◌, true, false, Some, None, is_some, [], length, Option, List, ℕ, IfOk, IfErr, OnOk, OnErr};
+ghost use Rattle.std.specs.Prelude.{◌≡◌, ◌≢◌, ◌<◌, true, false, Some, None, is_some, [], length, Option, List, ℕ, IfOk, IfErr, OnOk, OnErr};
 ghost use Rattle.nr_rpc.specs.Credential.{CanWriteCred};
 ghost use Rattle.nr_link.specs.declared.end.End.TheVariants as ends;
 ghost use Rattle.nr_requester.specs.Fed.{fed_bytes};
@@ -10,6 +10,7 @@ ghost use Rattle.nr_client.specs.Calls.{Answers, Completes, Forgets, GivesUp, Ha
 ghost use Rattle.nr_client.specs.Ending.{HasCredit, IsCause, IsEndOf, LinkCause, SinkCount, SourceCount};
 ghost use Rattle.nr_client.specs.Steps.{Fits, GoesOn, GoesTo, HasCreditLeft, LacksAnswer, LacksCredit, ReadsNone};
 ghost use Rattle.nr_client.specs.Transfers.{link_bytes};
+ghost use Rattle.nr_client.specs.Views.{link_view};
 
 use crate::call_end::CallEnd;
 use crate::transfer::{transfer, write_due};
@@ -170,10 +171,10 @@ pub(crate) fn complete<I: Source, O: Sink>(
     requires open { is_some (open_call ticket requester.old.state) ≡ true }
     ensures fits { Fits requester.new read.new (length buf.new) }
     ensures memory { OnOk result (requester.old.state.side.ended ≢ Some ends.Memory → requester.new.state.side.ended ≢ Some ends.Memory) }
-    ensures ok { IfOk result (λ outcome. Completes ticket outcome (link_bytes (I.left source.old) (I.given source.old) (O.taken sink.old) read.old)
-        (link_bytes (I.left source.new) (I.given source.new) (O.taken sink.new) read.new) requester.old requester.new) }
-    ensures err { IfErr result (λ end. Forgets ticket end (link_bytes (I.left source.old) (I.given source.old) (O.taken sink.old) read.old)
-        (link_bytes (I.left source.new) (I.given source.new) (O.taken sink.new) read.new) requester.old requester.new) }
+    ensures ok { IfOk result (λ outcome. Completes ticket outcome (link_view (I.left source.old) (I.given source.old) (O.taken sink.old) read.old requester.old (I.faults source.old) (O.faults sink.old))
+        (link_view (I.left source.new) (I.given source.new) (O.taken sink.new) read.new requester.new (I.faults source.new) (O.faults sink.new))) }
+    ensures err { IfErr result (λ end. Forgets ticket end (link_view (I.left source.old) (I.given source.old) (O.taken sink.old) read.old requester.old (I.faults source.old) (O.faults sink.old))
+        (link_view (I.left source.new) (I.given source.new) (O.taken sink.new) read.new requester.new (I.faults source.new) (O.faults sink.new))) }
     ensures cause { IfErr result (λ end. LinkCause end (I.left source.new) read.new requester.new) }
     ensures tickets { ClosesTicket ticket requester.old.state requester.new.state }
     ensures source_count { SourceCount result (I.faults source.old) (I.faults source.new) }
@@ -201,10 +202,10 @@ pub(crate) fn submit_over<I: Source, O: Sink>(
     requires fits { Fits requester.old read.old (length buf.old) }
     ensures fits { Fits requester.new read.new (length buf.new) }
     ensures live { OnOk result (requester.new.state.side.ended ≡ None) }
-    ensures ok { IfOk result (λ xid. Submits (link_bytes (I.left source.old) (I.given source.old) (O.taken sink.old) read.old)
-        (link_bytes (I.left source.new) (I.given source.new) (O.taken sink.new) read.new) requester.old requester.new call xid) }
-    ensures err { IfErr result (λ end. RefusesToSubmit (link_bytes (I.left source.old) (I.given source.old) (O.taken sink.old) read.old)
-        (link_bytes (I.left source.new) (I.given source.new) (O.taken sink.new) read.new) requester.old requester.new call end) }
+    ensures ok { IfOk result (λ xid. Submits (link_view (I.left source.old) (I.given source.old) (O.taken sink.old) read.old requester.old (I.faults source.old) (O.faults sink.old))
+        (link_view (I.left source.new) (I.given source.new) (O.taken sink.new) read.new requester.new (I.faults source.new) (O.faults sink.new)) call xid) }
+    ensures err { IfErr result (λ end. RefusesToSubmit (link_view (I.left source.old) (I.given source.old) (O.taken sink.old) read.old requester.old (I.faults source.old) (O.faults sink.old))
+        (link_view (I.left source.new) (I.given source.new) (O.taken sink.new) read.new requester.new (I.faults source.new) (O.faults sink.new)) call end) }
     ensures cause { IfErr result (λ end. IsCause end (I.left source.new) read.new requester.new call) }
     ensures opens { IfOk result (λ xid. OpensTicket xid call requester.old.state requester.new.state) }
     ensures keeps { OnErr result (KeepsTickets requester.old.state requester.new.state) }
@@ -237,10 +238,10 @@ pub(crate) fn call_over<I: Source, O: Sink>(
     requires fits { Fits requester.old read.old (length buf.old) }
     ensures fits { Fits requester.new read.new (length buf.new) }
     ensures memory { OnOk result (requester.new.state.side.ended ≢ Some ends.Memory) }
-    ensures ok { IfOk result (λ outcome. Answers (link_bytes (I.left source.old) (I.given source.old) (O.taken sink.old) read.old)
-        (link_bytes (I.left source.new) (I.given source.new) (O.taken sink.new) read.new) requester.old requester.new call outcome) }
-    ensures err { IfErr result (λ end. GivesUp (link_bytes (I.left source.old) (I.given source.old) (O.taken sink.old) read.old)
-        (link_bytes (I.left source.new) (I.given source.new) (O.taken sink.new) read.new) requester.old requester.new call end) }
+    ensures ok { IfOk result (λ outcome. Answers (link_view (I.left source.old) (I.given source.old) (O.taken sink.old) read.old requester.old (I.faults source.old) (O.faults sink.old))
+        (link_view (I.left source.new) (I.given source.new) (O.taken sink.new) read.new requester.new (I.faults source.new) (O.faults sink.new)) call outcome) }
+    ensures err { IfErr result (λ end. GivesUp (link_view (I.left source.old) (I.given source.old) (O.taken sink.old) read.old requester.old (I.faults source.old) (O.faults sink.old))
+        (link_view (I.left source.new) (I.given source.new) (O.taken sink.new) read.new requester.new (I.faults source.new) (O.faults sink.new)) call end) }
     ensures cause { IfErr result (λ end. IsCause end (I.left source.new) read.new requester.new call) }
     ensures tickets { KeepsTickets requester.old.state requester.new.state }
     ensures source_count { SourceCount result (I.faults source.old) (I.faults source.new) }

@@ -113,7 +113,7 @@ fn list_more<L: Calls>(
 ) -> Result<(), ClientEnd>
     requires { length listed.old.names ≤ entries_max }
     ensures asks { Asks (listed_after listed.old) (readdir_call uid gid dir.now listed.old.cookie listed.old.verifier)
-        (L.at link.old).bytes (L.at link.new).bytes (L.at link.old).requester (L.at link.new).requester (becomes listed.new result) }
+        (L.at link.old) (L.at link.new) (becomes listed.new result) }
     ensures source_faults { SourceFaults result (L.at link.old).source_faults (L.at link.new).source_faults }
     ensures sink_faults { SinkFaults result (L.at link.old).sink_faults (L.at link.new).sink_faults }
 {
@@ -133,7 +133,7 @@ pub(crate) fn list_over<L: Calls>(
     dir: &Handle,
 ) -> Result<Names, ClientEnd>
     ensures follows { Follows (list_next uid gid dir.now)
-        (L.at link.old).bytes (L.at link.new).bytes (L.at link.old).requester (L.at link.new).requester result }
+        (L.at link.old) (L.at link.new) result }
     ensures source_faults { SourceFaults result (L.at link.old).source_faults (L.at link.new).source_faults }
     ensures sink_faults { SinkFaults result (L.at link.old).sink_faults (L.at link.new).sink_faults }
 {

@@ -34,9 +34,9 @@ fn read_on<L: Calls, K: Sink>(
     ensures piece { OnOk result (IsInPiece file.now.size at.new end) }
     ensures more { OnOk result (at.old < at.new) }
     ensures ok { OnOk result ((from : ℕ) (xids : List ℕ) → ReadsOn file.now.uid file.now.gid file.now.handle.now file.now.size at.old from xids at.new from xids
-        (L.at link.old).bytes (L.at link.new).bytes (L.at link.old).requester (L.at link.new).requester (K.taken out.old) (K.taken out.new)) }
+        (L.at link.old) (L.at link.new) (K.taken out.old) (K.taken out.new)) }
     ensures err { IfErr result (λ why. (from : ℕ) (xids : List ℕ) → EndsSo file.now.uid file.now.gid file.now.handle.now file.now.size at.old from xids xids
-        (L.at link.old).bytes (L.at link.new).bytes (L.at link.old).requester (L.at link.new).requester (K.taken out.old) (K.taken out.new) (Err why)) }
+        (L.at link.old) (L.at link.new) (K.taken out.old) (K.taken out.new) (Err why)) }
     ensures tickets { KeepsTickets (L.at link.old).requester.state (L.at link.new).requester.state }
     ensures out_faults { OutputFaults result (K.faults out.old) (K.faults out.new) }
     ensures source_faults { SourceFaults result (L.at link.old).source_faults (L.at link.new).source_faults }
@@ -70,9 +70,9 @@ fn read_rest<L: Calls, K: Sink>(
     requires piece { IsInPiece file.now.size at.old end }
     ensures end { OnOk result (at.new ≡ end) }
     ensures ok { OnOk result ((from : ℕ) (xids : List ℕ) → ReadsOn file.now.uid file.now.gid file.now.handle.now file.now.size at.old from xids at.new from xids
-        (L.at link.old).bytes (L.at link.new).bytes (L.at link.old).requester (L.at link.new).requester (K.taken out.old) (K.taken out.new)) }
+        (L.at link.old) (L.at link.new) (K.taken out.old) (K.taken out.new)) }
     ensures err { IfErr result (λ why. (from : ℕ) (xids : List ℕ) → EndsSo file.now.uid file.now.gid file.now.handle.now file.now.size at.old from xids xids
-        (L.at link.old).bytes (L.at link.new).bytes (L.at link.old).requester (L.at link.new).requester (K.taken out.old) (K.taken out.new) (Err why)) }
+        (L.at link.old) (L.at link.new) (K.taken out.old) (K.taken out.new) (Err why)) }
     ensures tickets { KeepsTickets (L.at link.old).requester.state (L.at link.new).requester.state }
     ensures out_faults { OutputFaults result (K.faults out.old) (K.faults out.new) }
     ensures source_faults { SourceFaults result (L.at link.old).source_faults (L.at link.new).source_faults }
@@ -102,9 +102,9 @@ fn read_piece<L: Calls, K: Sink>(
     ensures more { OnOk result (at.old < at.new) }
     ensures ahead { OnOk result (ReadsAhead (L.at link.new).requester file.now.size at.new next.new tickets.new.items) }
     ensures ok { OnOk result (ReadsOn file.now.uid file.now.gid file.now.handle.now file.now.size at.old at.old tickets.old.items at.new at.new tickets.new.items
-        (L.at link.old).bytes (L.at link.new).bytes (L.at link.old).requester (L.at link.new).requester (K.taken out.old) (K.taken out.new)) }
+        (L.at link.old) (L.at link.new) (K.taken out.old) (K.taken out.new)) }
     ensures err { IfErr result (λ why. EndsSo file.now.uid file.now.gid file.now.handle.now file.now.size at.old at.old tickets.old.items tickets.new.items
-        (L.at link.old).bytes (L.at link.new).bytes (L.at link.old).requester (L.at link.new).requester (K.taken out.old) (K.taken out.new) (Err why)) }
+        (L.at link.old) (L.at link.new) (K.taken out.old) (K.taken out.new) (Err why)) }
     ensures out_faults { OutputFaults result (K.faults out.old) (K.faults out.new) }
     ensures source_faults { SourceFaults result (L.at link.old).source_faults (L.at link.new).source_faults }
     ensures sink_faults { SinkFaults result (L.at link.old).sink_faults (L.at link.new).sink_faults }
@@ -134,7 +134,7 @@ fn read_pieces<L: Calls, K: Sink>(
     requires { tickets.old.items ≡ [] }
     ensures open { AreOpen (L.at link.new).requester.state tickets.new.items }
     ensures ends { EndsSo file.now.uid file.now.gid file.now.handle.now file.now.size 0 0 [] tickets.new.items
-        (L.at link.old).bytes (L.at link.new).bytes (L.at link.old).requester (L.at link.new).requester (K.taken out.old) (K.taken out.new) result }
+        (L.at link.old) (L.at link.new) (K.taken out.old) (K.taken out.new) result }
     ensures out_faults { OutputFaults result (K.faults out.old) (K.faults out.new) }
     ensures source_faults { SourceFaults result (L.at link.old).source_faults (L.at link.new).source_faults }
     ensures sink_faults { SinkFaults result (L.at link.old).sink_faults (L.at link.new).sink_faults }
@@ -160,7 +160,7 @@ pub(crate) fn read_file_over<L: Calls, K: Sink>(
     out: &mut K,
 ) -> Result<(), ClientEnd>
     ensures reads { ReadsFile uid gid file.now
-        (L.at link.old).bytes (L.at link.new).bytes (L.at link.old).requester (L.at link.new).requester (K.taken out.old) (K.taken out.new) result }
+        (L.at link.old) (L.at link.new) (K.taken out.old) (K.taken out.new) result }
     ensures out_faults { OutputFaults result (K.faults out.old) (K.faults out.new) }
     ensures source_faults { SourceFaults result (L.at link.old).source_faults (L.at link.new).source_faults }
     ensures sink_faults { SinkFaults result (L.at link.old).sink_faults (L.at link.new).sink_faults }

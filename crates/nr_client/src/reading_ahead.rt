@@ -43,10 +43,10 @@ fn ask<L: Calls>(
     ensures within { OnOk result (next.new ≤ file.now.size) }
     ensures ok { OnOk result ((at : ℕ) (t : Option (List ℕ)) → at < file.now.size → ReadsAhead (L.at link.old).requester file.now.size at next.old tickets.old.items →
         ReadsOn file.now.uid file.now.gid file.now.handle.now file.now.size at at tickets.old.items at at tickets.new.items
-        (L.at link.old).bytes (L.at link.new).bytes (L.at link.old).requester (L.at link.new).requester t t) }
+        (L.at link.old) (L.at link.new) t t) }
     ensures err { IfErr result (λ end. (at : ℕ) (t : Option (List ℕ)) → at < file.now.size → ReadsAhead (L.at link.old).requester file.now.size at next.old tickets.old.items →
         EndsSo file.now.uid file.now.gid file.now.handle.now file.now.size at at tickets.old.items tickets.new.items
-        (L.at link.old).bytes (L.at link.new).bytes (L.at link.old).requester (L.at link.new).requester t t (Err end)) }
+        (L.at link.old) (L.at link.new) t t (Err end)) }
     ensures of_call { IfErr result IsOfCall }
     ensures source_faults { SourceFaults result (L.at link.old).source_faults (L.at link.new).source_faults }
     ensures sink_faults { SinkFaults result (L.at link.old).sink_faults (L.at link.new).sink_faults }
@@ -82,9 +82,9 @@ pub(crate) fn fill<L: Calls>(
     ensures ahead { OnOk result (ReadsAhead (L.at link.new).requester file.now.size at next.new tickets.new.items) }
     ensures full { OnOk result (IsFull file.now.size next.new tickets.new.items (L.at link.new).requester) }
     ensures ok { OnOk result ((t : Option (List ℕ)) → ReadsOn file.now.uid file.now.gid file.now.handle.now file.now.size at at tickets.old.items at at tickets.new.items
-        (L.at link.old).bytes (L.at link.new).bytes (L.at link.old).requester (L.at link.new).requester t t) }
+        (L.at link.old) (L.at link.new) t t) }
     ensures err { IfErr result (λ end. (t : Option (List ℕ)) → EndsSo file.now.uid file.now.gid file.now.handle.now file.now.size at at tickets.old.items tickets.new.items
-        (L.at link.old).bytes (L.at link.new).bytes (L.at link.old).requester (L.at link.new).requester t t (Err end)) }
+        (L.at link.old) (L.at link.new) t t (Err end)) }
     ensures of_call { IfErr result IsOfCall }
     ensures source_faults { SourceFaults result (L.at link.old).source_faults (L.at link.new).source_faults }
     ensures sink_faults { SinkFaults result (L.at link.old).sink_faults (L.at link.new).sink_faults }
@@ -116,10 +116,10 @@ pub(crate) fn take_oldest<L: Calls, K: Sink>(
     ensures more { OnOk result (at.old < at.new) }
     ensures ok { OnOk result ((uid gid next : ℕ) (file : List ℕ) → ReadsAhead (L.at link.old).requester size at.old next tickets.old.items → IsFull size next tickets.old.items (L.at link.old).requester →
         ReadsOn uid gid file size at.old at.old tickets.old.items at.new (at.old + piece_left size at.old) tickets.new.items
-        (L.at link.old).bytes (L.at link.new).bytes (L.at link.old).requester (L.at link.new).requester (K.taken out.old) (K.taken out.new)) }
+        (L.at link.old) (L.at link.new) (K.taken out.old) (K.taken out.new)) }
     ensures err { IfErr result (λ why. (uid gid next : ℕ) (file : List ℕ) → ReadsAhead (L.at link.old).requester size at.old next tickets.old.items → IsFull size next tickets.old.items (L.at link.old).requester →
         EndsSo uid gid file size at.old at.old tickets.old.items tickets.new.items
-        (L.at link.old).bytes (L.at link.new).bytes (L.at link.old).requester (L.at link.new).requester (K.taken out.old) (K.taken out.new) (Err why)) }
+        (L.at link.old) (L.at link.new) (K.taken out.old) (K.taken out.new) (Err why)) }
     ensures out_faults { OutputFaults result (K.faults out.old) (K.faults out.new) }
     ensures source_faults { SourceFaults result (L.at link.old).source_faults (L.at link.new).source_faults }
     ensures sink_faults { SinkFaults result (L.at link.old).sink_faults (L.at link.new).sink_faults }
@@ -140,8 +140,7 @@ pub(crate) fn take_oldest<L: Calls, K: Sink>(
 /// Forgets all READs that are outstanding.
 pub(crate) fn forget_all<L: Calls>(link: &mut L, tickets: &mut Vec<Ticket>)
     requires { AreOpen (L.at link.old).requester.state tickets.old.items }
-    ensures forgets { ForgetsCalls tickets.old.items (L.at link.old).requester (L.at link.new).requester }
-    ensures bytes { (L.at link.new).bytes ≡ (L.at link.old).bytes }
+    ensures forgets { ForgetsCalls tickets.old.items (L.at link.old) (L.at link.new) }
     ensures source_count { (L.at link.new).source_faults ≡ (L.at link.old).source_faults }
     ensures sink_count { (L.at link.new).sink_faults ≡ (L.at link.old).sink_faults }
 {

@@ -134,7 +134,7 @@ impl<L: Calls> Session<L> {
     /// The file handle of the root of an export (MNT, RFC 1813 section 5.2.1).
     pub fn mount(&mut self, export: &MountPath) -> Result<Handle, ClientEnd>
         ensures asks { Asks mnt_result (mnt_call self.old.uid self.old.gid export.now)
-            (L.at self.old.link).bytes (L.at self.new.link).bytes (L.at self.old.link).requester (L.at self.new.link).requester result }
+            (L.at self.old.link) (L.at self.new.link) result }
         ensures user { (self.new.uid ≡ self.old.uid) × (self.new.gid ≡ self.old.gid) }
         ensures source_faults { SourceFaults result (L.at self.old.link).source_faults (L.at self.new.link).source_faults }
         ensures sink_faults { SinkFaults result (L.at self.old.link).sink_faults (L.at self.new.link).sink_faults }
@@ -145,7 +145,7 @@ impl<L: Calls> Session<L> {
     /// The attributes of a file (GETATTR, RFC 1813 section 3.3.1).
     pub fn stat(&mut self, file: &Handle) -> Result<Attributes, ClientEnd>
         ensures asks { Asks getattr_result (getattr_call self.old.uid self.old.gid file.now)
-            (L.at self.old.link).bytes (L.at self.new.link).bytes (L.at self.old.link).requester (L.at self.new.link).requester result }
+            (L.at self.old.link) (L.at self.new.link) result }
         ensures user { (self.new.uid ≡ self.old.uid) × (self.new.gid ≡ self.old.gid) }
         ensures source_faults { SourceFaults result (L.at self.old.link).source_faults (L.at self.new.link).source_faults }
         ensures sink_faults { SinkFaults result (L.at self.old.link).sink_faults (L.at self.new.link).sink_faults }
@@ -160,7 +160,7 @@ impl<L: Calls> Session<L> {
     /// The object of a name in a directory (LOOKUP, RFC 1813 section 3.3.3).
     pub fn look_up(&mut self, dir: &Handle, name: &Name) -> Result<LookupOk, ClientEnd>
         ensures asks { Asks lookup_result (lookup_call self.old.uid self.old.gid dir.now name.now)
-            (L.at self.old.link).bytes (L.at self.new.link).bytes (L.at self.old.link).requester (L.at self.new.link).requester result }
+            (L.at self.old.link) (L.at self.new.link) result }
         ensures user { (self.new.uid ≡ self.old.uid) × (self.new.gid ≡ self.old.gid) }
         ensures source_faults { SourceFaults result (L.at self.old.link).source_faults (L.at self.new.link).source_faults }
         ensures sink_faults { SinkFaults result (L.at self.old.link).sink_faults (L.at self.new.link).sink_faults }
@@ -175,7 +175,7 @@ impl<L: Calls> Session<L> {
     /// The path in a symbolic link (READLINK, RFC 1813 section 3.3.5).
     pub fn read_link(&mut self, file: &Handle) -> Result<ReadlinkOk, ClientEnd>
         ensures asks { Asks readlink_result (readlink_call self.old.uid self.old.gid file.now)
-            (L.at self.old.link).bytes (L.at self.new.link).bytes (L.at self.old.link).requester (L.at self.new.link).requester result }
+            (L.at self.old.link) (L.at self.new.link) result }
         ensures user { (self.new.uid ≡ self.old.uid) × (self.new.gid ≡ self.old.gid) }
         ensures source_faults { SourceFaults result (L.at self.old.link).source_faults (L.at self.new.link).source_faults }
         ensures sink_faults { SinkFaults result (L.at self.old.link).sink_faults (L.at self.new.link).sink_faults }
@@ -190,7 +190,7 @@ impl<L: Calls> Session<L> {
     /// Removes a name from a directory (REMOVE, RFC 1813 section 3.3.12). The result is about the directory.
     pub fn remove(&mut self, dir: &Handle, name: &Name) -> Result<WccData, ClientEnd>
         ensures asks { Asks remove_result (remove_call self.old.uid self.old.gid dir.now name.now)
-            (L.at self.old.link).bytes (L.at self.new.link).bytes (L.at self.old.link).requester (L.at self.new.link).requester result }
+            (L.at self.old.link) (L.at self.new.link) result }
         ensures user { (self.new.uid ≡ self.old.uid) × (self.new.gid ≡ self.old.gid) }
         ensures source_faults { SourceFaults result (L.at self.old.link).source_faults (L.at self.new.link).source_faults }
         ensures sink_faults { SinkFaults result (L.at self.old.link).sink_faults (L.at self.new.link).sink_faults }
@@ -205,7 +205,7 @@ impl<L: Calls> Session<L> {
     /// Makes a directory of this name in a directory, with mode 0755 (MKDIR, RFC 1813 section 3.3.9).
     pub fn mkdir(&mut self, dir: &Handle, name: &Name) -> Result<CreateOk, ClientEnd>
         ensures asks { Asks create_result (mkdir_call self.old.uid self.old.gid dir.now name.now)
-            (L.at self.old.link).bytes (L.at self.new.link).bytes (L.at self.old.link).requester (L.at self.new.link).requester result }
+            (L.at self.old.link) (L.at self.new.link) result }
         ensures user { (self.new.uid ≡ self.old.uid) × (self.new.gid ≡ self.old.gid) }
         ensures source_faults { SourceFaults result (L.at self.old.link).source_faults (L.at self.new.link).source_faults }
         ensures sink_faults { SinkFaults result (L.at self.old.link).sink_faults (L.at self.new.link).sink_faults }
@@ -220,7 +220,7 @@ impl<L: Calls> Session<L> {
     /// Makes a symbolic link of this name in a directory, which holds this path (SYMLINK, RFC 1813 section 3.3.10). No attribute is given.
     pub fn link(&mut self, dir: &Handle, name: &Name, path: &Path) -> Result<CreateOk, ClientEnd>
         ensures asks { Asks create_result (symlink_call self.old.uid self.old.gid dir.now name.now path.now)
-            (L.at self.old.link).bytes (L.at self.new.link).bytes (L.at self.old.link).requester (L.at self.new.link).requester result }
+            (L.at self.old.link) (L.at self.new.link) result }
         ensures user { (self.new.uid ≡ self.old.uid) × (self.new.gid ≡ self.old.gid) }
         ensures source_faults { SourceFaults result (L.at self.old.link).source_faults (L.at self.new.link).source_faults }
         ensures sink_faults { SinkFaults result (L.at self.old.link).sink_faults (L.at self.new.link).sink_faults }
@@ -236,7 +236,7 @@ impl<L: Calls> Session<L> {
     /// bad (`BadPath`), no call is made.
     pub fn walk(&mut self, root: &Handle, path: &[u8]) -> Result<Handle, ClientEnd>
         ensures follows { Follows (walk_next self.old.uid self.old.gid root.now path.now)
-            (L.at self.old.link).bytes (L.at self.new.link).bytes (L.at self.old.link).requester (L.at self.new.link).requester result }
+            (L.at self.old.link) (L.at self.new.link) result }
         ensures user { (self.new.uid ≡ self.old.uid) × (self.new.gid ≡ self.old.gid) }
         ensures source_faults { SourceFaults result (L.at self.old.link).source_faults (L.at self.new.link).source_faults }
         ensures sink_faults { SinkFaults result (L.at self.old.link).sink_faults (L.at self.new.link).sink_faults }
@@ -252,7 +252,7 @@ impl<L: Calls> Session<L> {
         path: &[u8],
     ) -> Result<(Handle, Name), ClientEnd>
         ensures follows { Follows (parent_next self.old.uid self.old.gid root.now path.now)
-            (L.at self.old.link).bytes (L.at self.new.link).bytes (L.at self.old.link).requester (L.at self.new.link).requester result }
+            (L.at self.old.link) (L.at self.new.link) result }
         ensures user { (self.new.uid ≡ self.old.uid) × (self.new.gid ≡ self.old.gid) }
         ensures source_faults { SourceFaults result (L.at self.old.link).source_faults (L.at self.new.link).source_faults }
         ensures sink_faults { SinkFaults result (L.at self.old.link).sink_faults (L.at self.new.link).sink_faults }
@@ -264,7 +264,7 @@ impl<L: Calls> Session<L> {
     /// 1048576; `BadReply` with reason 25 if a reply has no entry and isn't the last.
     pub fn list(&mut self, dir: &Handle) -> Result<Names, ClientEnd>
         ensures follows { Follows (list_next self.old.uid self.old.gid dir.now)
-            (L.at self.old.link).bytes (L.at self.new.link).bytes (L.at self.old.link).requester (L.at self.new.link).requester result }
+            (L.at self.old.link) (L.at self.new.link) result }
         ensures user { (self.new.uid ≡ self.old.uid) × (self.new.gid ≡ self.old.gid) }
         ensures source_faults { SourceFaults result (L.at self.old.link).source_faults (L.at self.new.link).source_faults }
         ensures sink_faults { SinkFaults result (L.at self.old.link).sink_faults (L.at self.new.link).sink_faults }
@@ -277,7 +277,7 @@ impl<L: Calls> Session<L> {
     /// the bytes that came.
     pub fn read_file<K: Sink>(&mut self, file: &Handle, out: &mut K) -> Result<(), ClientEnd>
         ensures reads { ReadsFile self.old.uid self.old.gid file.now
-            (L.at self.old.link).bytes (L.at self.new.link).bytes (L.at self.old.link).requester (L.at self.new.link).requester (K.taken out.old) (K.taken out.new) result }
+            (L.at self.old.link) (L.at self.new.link) (K.taken out.old) (K.taken out.new) result }
         ensures out_faults { OutputFaults result (K.faults out.old) (K.faults out.new) }
         ensures user { (self.new.uid ≡ self.old.uid) × (self.new.gid ≡ self.old.gid) }
         ensures source_faults { SourceFaults result (L.at self.old.link).source_faults (L.at self.new.link).source_faults }
@@ -297,7 +297,7 @@ impl<L: Calls> Session<L> {
         input: &mut N,
     ) -> Result<(), ClientEnd>
         ensures writes { WritesFile self.old.uid self.old.gid dir.now name.now
-            (L.at self.old.link).bytes (L.at self.new.link).bytes (L.at self.old.link).requester (L.at self.new.link).requester (N.left input.old) (N.given input.old) (N.left input.new) (N.given input.new) result }
+            (L.at self.old.link) (L.at self.new.link) (N.left input.old) (N.given input.old) (N.left input.new) (N.given input.new) result }
         ensures input_faults { InputFaults result (N.faults input.old) (N.faults input.new) }
         // Once a read of the input failed, nothing more is read of it.
         ensures input_stops { StopsAtFault N.faults N.left N.given result input.old input.new }

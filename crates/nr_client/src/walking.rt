@@ -23,7 +23,7 @@ fn object_over<L: Calls>(
     name: &Name,
 ) -> Result<Handle, ClientEnd>
     ensures asks { Asks object_result (lookup_call uid gid dir.now name.now)
-        (L.at link.old).bytes (L.at link.new).bytes (L.at link.old).requester (L.at link.new).requester result }
+        (L.at link.old) (L.at link.new) result }
     ensures source_faults { SourceFaults result (L.at link.old).source_faults (L.at link.new).source_faults }
     ensures sink_faults { SinkFaults result (L.at link.old).sink_faults (L.at link.new).sink_faults }
 {
@@ -44,7 +44,7 @@ fn walk_names<L: Calls>(
     names: &[Name],
 ) -> Result<Handle, ClientEnd>
     ensures follows { Follows (walk_from uid gid root.now names.now)
-        (L.at link.old).bytes (L.at link.new).bytes (L.at link.old).requester (L.at link.new).requester result }
+        (L.at link.old) (L.at link.new) result }
     ensures source_faults { SourceFaults result (L.at link.old).source_faults (L.at link.new).source_faults }
     ensures sink_faults { SinkFaults result (L.at link.old).sink_faults (L.at link.new).sink_faults }
 {
@@ -71,7 +71,7 @@ fn parent_of_names<L: Calls>(
     names: &[Name],
 ) -> Result<(Handle, Name), ClientEnd>
     ensures follows { Follows (parent_along uid gid root.now at names.now)
-        (L.at link.old).bytes (L.at link.new).bytes (L.at link.old).requester (L.at link.new).requester result }
+        (L.at link.old) (L.at link.new) result }
     ensures source_faults { SourceFaults result (L.at link.old).source_faults (L.at link.new).source_faults }
     ensures sink_faults { SinkFaults result (L.at link.old).sink_faults (L.at link.new).sink_faults }
 {
@@ -98,7 +98,7 @@ pub(crate) fn walk_over<L: Calls>(
     path: &[u8],
 ) -> Result<Handle, ClientEnd>
     ensures follows { Follows (walk_next uid gid root.now path.now)
-        (L.at link.old).bytes (L.at link.new).bytes (L.at link.old).requester (L.at link.new).requester result }
+        (L.at link.old) (L.at link.new) result }
     ensures source_faults { SourceFaults result (L.at link.old).source_faults (L.at link.new).source_faults }
     ensures sink_faults { SinkFaults result (L.at link.old).sink_faults (L.at link.new).sink_faults }
 {
@@ -119,7 +119,7 @@ pub(crate) fn walk_to_parent_over<L: Calls>(
     path: &[u8],
 ) -> Result<(Handle, Name), ClientEnd>
     ensures follows { Follows (parent_next uid gid root.now path.now)
-        (L.at link.old).bytes (L.at link.new).bytes (L.at link.old).requester (L.at link.new).requester result }
+        (L.at link.old) (L.at link.new) result }
     ensures source_faults { SourceFaults result (L.at link.old).source_faults (L.at link.new).source_faults }
     ensures sink_faults { SinkFaults result (L.at link.old).sink_faults (L.at link.new).sink_faults }
 {

@@ -45,11 +45,11 @@ fn write_piece<L: Calls>(
 ) -> Result<usize, ClientEnd>
     requires { length piece.now ≤ transfer_max }
     ensures ok { IfOk result (λ count. WritesOn uid gid file.now piece.now at (at + count)
-        (L.at link.old).bytes (L.at link.new).bytes (L.at link.old).requester (L.at link.new).requester) }
+        (L.at link.old) (L.at link.new)) }
     ensures more { IfOk result (λ count. 0 < count) }
     ensures within { IfOk result (λ count. count ≤ length piece.now) }
     ensures err { IfErr result (λ end. FailsToWrite uid gid file.now piece.now at
-        (L.at link.old).bytes (L.at link.new).bytes (L.at link.old).requester (L.at link.new).requester end) }
+        (L.at link.old) (L.at link.new) end) }
     ensures of_call { IfErr result IsOfCall }
     ensures source_faults { SourceFaults result (L.at link.old).source_faults (L.at link.new).source_faults }
     ensures sink_faults { SinkFaults result (L.at link.old).sink_faults (L.at link.new).sink_faults }
@@ -86,9 +86,9 @@ fn write_next<L: Calls, N: Source>(
     ensures ready { OnOk result (IsReadyAt at.new (N.left input.new) window.new) }
     ensures more { OnOk result (at.old < at.new) }
     ensures ok { OnOk result (StreamsOn uid gid file.now at.old at.new window.old window.new
-        (L.at link.old).bytes (L.at link.new).bytes (L.at link.old).requester (L.at link.new).requester (N.left input.old) (N.given input.old) (N.left input.new) (N.given input.new)) }
+        (L.at link.old) (L.at link.new) (N.left input.old) (N.given input.old) (N.left input.new) (N.given input.new)) }
     ensures err { OnErr result (StreamsTo uid gid file.now at.old window.old
-        (L.at link.old).bytes (L.at link.new).bytes (L.at link.old).requester (L.at link.new).requester (N.left input.old) (N.given input.old) (N.left input.new) (N.given input.new) result) }
+        (L.at link.old) (L.at link.new) (N.left input.old) (N.given input.old) (N.left input.new) (N.given input.new) result) }
     ensures input_faults { InputFaults result (N.faults input.old) (N.faults input.new) }
     ensures input_stops { StopsAtFault N.faults N.left N.given result input.old input.new }
     ensures source_faults { SourceFaults result (L.at link.old).source_faults (L.at link.new).source_faults }
@@ -118,7 +118,7 @@ fn write_pieces<L: Calls, N: Source>(
 ) -> Result<(), ClientEnd>
     requires { IsReadyAt 0 (N.left input.old) window.old }
     ensures writes { StreamsTo uid gid file.now 0 window.old
-        (L.at link.old).bytes (L.at link.new).bytes (L.at link.old).requester (L.at link.new).requester (N.left input.old) (N.given input.old) (N.left input.new) (N.given input.new) result }
+        (L.at link.old) (L.at link.new) (N.left input.old) (N.given input.old) (N.left input.new) (N.given input.new) result }
     ensures input_faults { InputFaults result (N.faults input.old) (N.faults input.new) }
     ensures input_stops { StopsAtFault N.faults N.left N.given result input.old input.new }
     ensures source_faults { SourceFaults result (L.at link.old).source_faults (L.at link.new).source_faults }
@@ -149,7 +149,7 @@ fn create_over<L: Calls>(
     name: &Name,
 ) -> Result<Handle, ClientEnd>
     ensures asks { Asks created_file (create_call uid gid dir.now name.now)
-        (L.at link.old).bytes (L.at link.new).bytes (L.at link.old).requester (L.at link.new).requester result }
+        (L.at link.old) (L.at link.new) result }
     ensures of_call { IfErr result IsOfCall }
     ensures source_faults { SourceFaults result (L.at link.old).source_faults (L.at link.new).source_faults }
     ensures sink_faults { SinkFaults result (L.at link.old).sink_faults (L.at link.new).sink_faults }
@@ -175,7 +175,7 @@ fn write_window<L: Calls, N: Source>(
     requires { IsReadyAt 0 (N.left input.old) window.old }
     ensures writes { (left given : Option (List ℕ)) → HandsOut left given (N.left input.old) (N.given input.old) window.old.kept
         → WritesFile uid gid dir.now name.now
-        (L.at link.old).bytes (L.at link.new).bytes (L.at link.old).requester (L.at link.new).requester left given (N.left input.new) (N.given input.new) result }
+        (L.at link.old) (L.at link.new) left given (N.left input.new) (N.given input.new) result }
     ensures input_faults { InputFaults result (N.faults input.old) (N.faults input.new) }
     ensures input_stops { StopsAtFault N.faults N.left N.given result input.old input.new }
     ensures source_faults { SourceFaults result (L.at link.old).source_faults (L.at link.new).source_faults }
@@ -201,7 +201,7 @@ pub(crate) fn write_file_over<L: Calls, N: Source>(
     input: &mut N,
 ) -> Result<(), ClientEnd>
     ensures writes { WritesFile uid gid dir.now name.now
-        (L.at link.old).bytes (L.at link.new).bytes (L.at link.old).requester (L.at link.new).requester (N.left input.old) (N.given input.old) (N.left input.new) (N.given input.new) result }
+        (L.at link.old) (L.at link.new) (N.left input.old) (N.given input.old) (N.left input.new) (N.given input.new) result }
     ensures input_faults { InputFaults result (N.faults input.old) (N.faults input.new) }
     ensures input_stops { StopsAtFault N.faults N.left N.given result input.old input.new }
     ensures source_faults { SourceFaults result (L.at link.old).source_faults (L.at link.new).source_faults }

@@ -73,13 +73,13 @@ IsSilent (Err end) (Err why) = why ≡ end
 abbrev pub ReadsOut : (uid gid : ℕ) → (file : List ℕ) → (out out' : SinkAt) → Part (List ℕ)
 ReadsOut uid gid file out out' s s' text =
     (done : Result (Unit {0}) ClientEnd)
-    × ((ReadsFile uid gid file s.bytes s'.bytes s.requester s'.requester out.taken out'.taken done × (OutputFaults done out.faults out'.faults × CountsFaults s s' done)) × IsSilent done text)
+    × ((ReadsFile uid gid file s s' out.taken out'.taken done × (OutputFaults done out.faults out'.faults × CountsFaults s s' done)) × IsSilent done text)
 
 -- the bytes of the input were written to a file of this name
 abbrev pub WritesIn : (uid gid : ℕ) → (dir name : List ℕ) → (input input' : SourceAt) → Part (List ℕ)
 WritesIn uid gid dir name input input' s s' text =
     (done : Result (Unit {0}) ClientEnd)
-    × ((WritesFile uid gid dir name s.bytes s'.bytes s.requester s'.requester input.left input.given input'.left input'.given done × (InputFaults done input.faults input'.faults × CountsFaults s s' done))
+    × ((WritesFile uid gid dir name s s' input.left input.given input'.left input'.given done × (InputFaults done input.faults input'.faults × CountsFaults s s' done))
     × IsSilent done text)
 
 -- a file was found, and its bytes written to the output; if none was found, the output is as before

@@ -34,11 +34,11 @@ CountsFaults s s' result = SourceFaults result s.source_faults s'.source_faults 
 
 -- a request of one call
 abbrev pub Request : {A : Type 0} → (Outcome → Result A ClientEnd) → Call → Part A
-Request reads call s s' result = Asks reads call s.bytes s'.bytes s.requester s'.requester result × CountsFaults s s' result
+Request reads call s s' result = Asks reads call s s' result × CountsFaults s s' result
 
 -- a request of several calls
 abbrev pub Requests : {A : Type 0} → (List Outcome → Next A) → Part A
-Requests request s s' result = Follows request s.bytes s'.bytes s.requester s'.requester result × CountsFaults s s' result
+Requests request s s' result = Follows request s s' result × CountsFaults s s' result
 
 -- a part, and then the part that follows from its value; an end of the first is the end of both
 abbrev pub Then : {A B : Type 0} → Part A → (A → Part B) → Part B

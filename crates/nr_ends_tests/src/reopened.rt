@@ -97,7 +97,13 @@ counts = [0, 4, 0, 0, 0, 2]\n\
 ends = (None, None)\n\
 ";
 
-/// The server's hello, and a NULL call that is sent again as the first Send of the link.
+/// The server's hello comes before a drain, so the hello and a Send wait.
+static CUT: &str = "\
+submit auto 0 :\n\
+feed-down : hello-back 10000\n\
+";
+
+/// Both hellos, and the NULL call that is sent again as the first Send of the link.
 static SENT_AFTER_A_CUT: &str = "\
 client-writes : hello 10010 4e523031 1010000 0 5\n\
 feed-up : hello 10010 4e523031 1010000 0 5\n\
@@ -176,7 +182,7 @@ fn place_hello(rt: &impl Abort, alloc: Global, link: &mut TestLink)
 {
     let mut sink = MemSink::new(alloc, Vec::new(alloc));
     same(rt, 0, link.write_down(&mut sink), true);
-    let (write, _reply) = sink.bytes().split_at(28.min(sink.bytes().len()));
+    let (write, _reply) = sink.bytes().split_at(sink.bytes().len().min(28));
     same(rt, 1, link.feed_down(rt, write).is_ok(), true);
 }
 
@@ -198,12 +204,13 @@ fn placed_before(rt: &impl Abort, alloc: Global, link: &mut TestLink, leaves: bo
     link.revoke(rt, 3, ticket, 6, Some(placed), false);
 }
 
-/// A drain that was cut in the middle leaves nothing to the next link, whose first bytes are a hello.
+/// A drain that was cut between the hello and the Send of a call leaves nothing to the next link, whose first bytes are a hello.
 fn cut_before(rt: &impl Abort, alloc: Global, link: &mut TestLink) {
-    drop(link.submit(rt, call(rt, alloc, 0, &[]), Form::Auto));
+    run_lines(rt, alloc, link, 65536, CUT);
     let mut sink = MemSink::new(alloc, [1].to_vec(alloc).expect(rt, "memory"));
     same(rt, 0, link.write_up(&mut sink), false);
-    same(rt, 1, link.reopen(rt, alloc, 1, 1).is_ok(), true);
+    same(rt, 1, sink.bytes().len(), 36);
+    same(rt, 2, link.reopen(rt, alloc, 1, 1).is_ok(), true);
     run_lines(rt, alloc, link, 65536, SENT_AFTER_A_CUT);
 }
 

@@ -7,7 +7,6 @@ use Rattle.nr_words.specs.Limits.{mount_path_max}
 use Rattle.nr_reduce.specs.declared.call.Call.{Call}
 use Rattle.nr_reduce.specs.declared.call.Outcome.{Outcome}
 use Rattle.nr_reduce.specs.declared.mark.Entry.{Entry}
-use Rattle.nr_requester.specs.RequesterState.{RequesterSide}
 use Rattle.nr_plain.specs.Setup.{Setup}
 use Rattle.nr_client.specs.declared.client_end.ClientEnd.{ClientEnd}
 use Rattle.nr_client.specs.declared.client_end.ClientEnd.TheVariants as client
@@ -16,8 +15,8 @@ use Rattle.nr_client.specs.Following.Next.{Calls, Returns}
 use Rattle.nr_client.specs.Reading.{EndsReading, OpenRead, ReadsFile, TakesRead, bytes_read, reading, starts_at}
 use Rattle.nr_client.specs.Reading.EndsReading.{EndsByReplies, NotAnswered, NotSubmitted, OldestForgotten, OutputFails}
 use Rattle.nr_client.specs.Requests.{mnt_call, mnt_result}
-use Rattle.nr_client.specs.Transfers.{LinkBytes}
 use Rattle.nr_client.specs.Walking.{walk_next}
+use Rattle.nr_client.specs.Views.{LinkView}
 use Rattle.nr_commands.specs.Sessions.{Fails, Request, SessionAt}
 use Rattle.nr_service_laws.specs.Exchanges.{Exchange, followed_exchanges, made_exchanges, read_exchanges, steps_exchanges, tells_finds, tells_mounts, tells_reads_out, tells_request, within_exchanges}
 use Rattle.nr_service_laws.specs.Exchanges.Exchange.{Answered, Forgotten, GivenUp, HandedOver, Submitted}
@@ -77,13 +76,13 @@ pub record HasValue {A : Type 0} (R : Call → Outcome → Type 0) (request : Li
   pub answers : AreAnswers R request outcomes
   pub is : request outcomes ≡ Returns (Ok value)
 
-pub followed : {A : Type 0} (R : Call → Outcome → Type 0) (request : List Outcome → Next A) (b c : LinkBytes) (h i : RequesterSide) (value : A) (f : Follows request b c h i (Ok value)) (before : List OpenRead)
-    → AreJudged R before (followed_exchanges request b c h i (Ok value) f).made → HasValue R request value
-followed {A} R request b c h i value f before are =
-    let made = (made_exchanges request f.outcomes b f.between h f.side f.made).made in
-    record { outcomes = f.outcomes; answers = answers_of R request f.outcomes b f.between h f.side f.made before (judged_both R before made _ are).0; is = ends (request f.outcomes) f.ends }
+pub followed : {A : Type 0} (R : Call → Outcome → Type 0) (request : List Outcome → Next A) (b c : LinkView) (value : A) (f : Follows request b c (Ok value)) (before : List OpenRead)
+    → AreJudged R before (followed_exchanges request b c (Ok value) f).made → HasValue R request value
+followed {A} R request b c value f before are =
+    let made = (made_exchanges request f.outcomes b f.between f.made).made in
+    record { outcomes = f.outcomes; answers = answers_of R request f.outcomes b f.between f.made before (judged_both R before made _ are).0; is = ends (request f.outcomes) f.ends }
   where
-    ends : (next : Next A) → EndsWith next f.between c f.side i (Ok value) → next ≡ Returns (Ok value)
+    ends : (next : Next A) → EndsWith next f.between c (Ok value) → next ≡ Returns (Ok value)
     ends (Returns result) (gives, same) = ap (λ (r : Result A ClientEnd). Returns r) gives
     ends (Calls call) (end, (same, gone)) = absurd (let wrong = same in cc)
 
@@ -105,10 +104,10 @@ record IsReadWhole (R : Call → Outcome → Type 0) (uid gid : ℕ) (file : Lis
   is : reading uid gid file outcomes ≡ Returns (Ok tt)
   takes : Appends taken taken' (bytes_read outcomes)
 
-read_whole : (R : Call → Outcome → Type 0) (uid gid : ℕ) (file : List ℕ) (b c : LinkBytes) (h i : RequesterSide) (taken taken' : Option (List ℕ)) (f : ReadsFile uid gid file b c h i taken taken' (Ok tt)) (before : List OpenRead)
-    → AreJudged R before (read_exchanges uid gid file b c h i taken taken' (Ok tt) f).made → IsReadWhole R uid gid file taken taken'
-read_whole R uid gid file b c h i taken taken' f before are =
-    by f.ends (steps_judged R uid gid file before b h f.between f.last f.made (judged_both R before (steps_exchanges uid gid file (starts_at b h) f.between f.last f.made).made _ are).0).answers
+read_whole : (R : Call → Outcome → Type 0) (uid gid : ℕ) (file : List ℕ) (b c : LinkView) (taken taken' : Option (List ℕ)) (f : ReadsFile uid gid file b c taken taken' (Ok tt)) (before : List OpenRead)
+    → AreJudged R before (read_exchanges uid gid file b c taken taken' (Ok tt) f).made → IsReadWhole R uid gid file taken taken'
+read_whole R uid gid file b c taken taken' f before are =
+    by f.ends (steps_judged R uid gid file before b f.between f.last f.made (judged_both R before (steps_exchanges uid gid file (starts_at b) f.between f.last f.made).made _ are).0).answers
   where
     takes_all : TakesRead (Ok tt) f.last.outcomes taken taken' → Appends taken taken' (bytes_read f.last.outcomes)
     takes_all (inl takes) = takes
@@ -118,7 +117,7 @@ read_whole R uid gid file b c h i taken taken' f before are =
     returned (inl wrong) = absurd (let w = wrong in cc)
     returned (inr is) = is
 
-    by : EndsReading uid gid file f.last f.left c f.side taken taken' (Ok tt) → AreAnswers R (reading uid gid file) f.last.outcomes → IsReadWhole R uid gid file taken taken'
+    by : EndsReading uid gid file f.last f.left f.ended taken taken' (Ok tt) → AreAnswers R (reading uid gid file) f.last.outcomes → IsReadWhole R uid gid file taken taken'
     by (EndsByReplies same is waits takes) answers = record { outcomes = f.last.outcomes; answers = answers; is = returned is; takes = takes_all takes }
     by (OutputFails wrong same waits takes) answers = absurd (let w = wrong in cc)
     by (NotAnswered call end alone wrong unanswered waits takes) answers = absurd (let w = wrong in cc)
@@ -138,11 +137,11 @@ gets_read_the_file_lem s J uid gid export path names out out' before after text 
     let all = judged s J from (finds_made ++ reads_made) [] from (omega arith) tt are in
     let parts = judged_both R [] finds_made reads_made all in
     let mounts_made = (tells_mounts uid gid export before m (Ok root) mounts).made in
-    let walks_made = (followed_exchanges (walk_next uid gid root path) m.bytes mid.bytes m.requester mid.requester (Ok file) walks.0).made in
+    let walks_made = (followed_exchanges (walk_next uid gid root path) m mid (Ok file) walks.0).made in
     let found_parts = judged_both R [] mounts_made walks_made parts.0 in
     let mount = mounted R uid gid export before m root (nat_lt mount_path_max (length export)) mounts found_parts.0 in
-    let walk = followed R (walk_next uid gid root path) m.bytes mid.bytes m.requester mid.requester file walks.0 (reads_after [] mounts_made) found_parts.1 in
-    let read = read_whole R uid gid file mid.bytes after.bytes mid.requester after.requester out.taken out'.taken reads (reads_after [] finds_made) parts.1 in (
+    let walk = followed R (walk_next uid gid root path) m mid file walks.0 (reads_after [] mounts_made) found_parts.1 in
+    let read = read_whole R uid gid file mid after out.taken out'.taken reads (reads_after [] finds_made) parts.1 in (
       read.outcomes,
       (
         record {

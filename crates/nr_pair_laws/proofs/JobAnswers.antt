@@ -39,7 +39,7 @@ use Rattle.nr_plain.specs.Setup.{Setup}
 use Rattle.nr_client.specs.declared.client_end.ClientEnd.{ClientEnd}
 use Rattle.nr_client.specs.Following.Next.{Returns}
 use Rattle.nr_outside.specs.Streams.{SinkAt, SourceAt}
-use Rattle.nr_client.specs.Jobs.{AreExchanges, EndsByJobs, IsExchange, LinkAt, ReadsFileByJobs, ReadsShared, bytes_at}
+use Rattle.nr_client.specs.Jobs.{AreExchanges, EndsByJobs, IsExchange, LinkAt, ReadsFileByJobs, ReadsShared, view_at}
 use Rattle.nr_client.specs.Jobs.ReadsFileByJobs.{NoAttributes, Shared}
 use Rattle.nr_client.specs.Paths.{path_names}
 use Rattle.nr_client.specs.Reading.{bytes_read, reading}
@@ -304,7 +304,7 @@ jobs_are_served_lem limits first J opened link outside outside' end connection g
         IsTyped both → (none : number_heard connection.ended.run link ≡ 0) × IsServedJobs (setup_in first) J (connection.over none).more opened link ran.run both made history) (tells_finds get.uid get.gid get.export get.path s s' (Ok file) finds).made
         get.uid get.gid file s' hangs.source hangs.sink out.taken out'.taken result reads
     by (NoAttributes mid why gets is same none) = λ ran both sides typed.
-        served (found ++ (asked_exchanges getattr_result (getattr_call get.uid get.gid file) (bytes_at (link_of s')) (bytes_at mid) (link_of s').requester mid.requester (Err why) gets.asks).made) [] ran none_earlier both sides typed
+        served (found ++ (asked_exchanges getattr_result (getattr_call get.uid get.gid file) (view_at (link_of s')) (view_at mid) (Err why) gets.asks).made) [] ran none_earlier both sides typed
     by (Shared mid outcome attributes gets shared) = λ ran both sides typed.
         served (found ++ Answered (getattr_call get.uid get.gid file) outcome ∷ []) shared.back.history ran shared.back.earlier both sides typed
 
@@ -379,10 +379,10 @@ module _ (s : Setup) (J : List Entry) (uid gid : ℕ) (export path file : List �
   whole_read (inl (root, (m, (mounts, walks)))) outcome alone are_names keep later taken taken' answers read =
       let R = AnsweredAfter s J from in
       let mounts_made = (tells_mounts uid gid export at m (Ok root) mounts).made in
-      let walks_made = (followed_exchanges (walk_next uid gid root path) m.bytes mid.bytes m.requester mid.requester (Ok file) walks.0).made in
+      let walks_made = (followed_exchanges (walk_next uid gid root path) m mid (Ok file) walks.0).made in
       let parts = judged_both R [] mounts_made walks_made alone.finding in
       let mount = mounted R uid gid export at m root (nat_lt mount_path_max (length export)) mounts parts.0 in
-      let walk = followed R (walk_next uid gid root path) m.bytes mid.bytes m.requester mid.requester file walks.0 (reads_after [] mounts_made) parts.1 in
+      let walk = followed R (walk_next uid gid root path) m mid file walks.0 (reads_after [] mounts_made) parts.1 in
       record {
         outcomes = outcome ∷ later;
         gets = record {

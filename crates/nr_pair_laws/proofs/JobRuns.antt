@@ -38,7 +38,7 @@ use Rattle.nr_client.specs.declared.call_end.CallEnd.TheVariants as calls
 use Rattle.nr_client.specs.declared.client_end.ClientEnd.{ClientEnd}
 use Rattle.nr_client.specs.declared.client_end.ClientEnd.TheVariants as client
 use Rattle.nr_client.specs.Dialing.{DialerAt}
-use Rattle.nr_client.specs.Jobs.{FileReads, GetsAttributes, GetsNoAttributes, LinkAt, ReadsFileByJobs, ReadsShared, bytes_at}
+use Rattle.nr_client.specs.Jobs.{FileReads, GetsAttributes, GetsNoAttributes, LinkAt, ReadsFileByJobs, ReadsShared, view_at}
 use Rattle.nr_client.specs.Jobs.ReadsFileByJobs.{NoAttributes, Shared}
 use Rattle.nr_client.specs.Requests.{getattr_call, getattr_result}
 use Rattle.nr_client.specs.Steps.{IsLive}
@@ -152,9 +152,9 @@ jobs_run : (opened : LinkParameters) (link : ℕ) (addr : List ℕ) (units : ℕ
 jobs_run opened link addr units invalidates uid gid export path file before dialed after s s' opens finds source sink mid outcome attributes answered taken taken' result shared hangs session =
     let back = shared.back in
     let history = back.history in
-    let has = does_both {A = List ℕ} {B = Unit {0}} file (Ok tt) s.bytes s'.bytes (bytes_at mid) s.requester s'.requester mid.requester (tells_finds uid gid export path s s' (Ok file) finds)
+    let has = does_both {A = List ℕ} {B = Unit {0}} file (Ok tt) s s' (view_at mid) (tells_finds uid gid export path s s' (Ok file) finds)
     (one (Answered (getattr_call uid gid file) outcome)) (has_finds uid gid export path s s' (Ok file) finds)
-    (does_answers {A = Unit {0}} tt (getattr_call uid gid file) outcome s'.bytes (bytes_at mid) s'.requester mid.requester answered.answers) in
+    (does_answers {A = Unit {0}} tt (getattr_call uid gid file) outcome s' (view_at mid) answered.answers) in
     let done = has opened link [] session.fine (sessions_begin_lem addr (terms_with units invalidates) before dialed s opened link opens session.first_xid session.first_stag session.wished) in
     let alone = done.more in
     let live = stands_live opened link mid.requester done.ahead alone done.stands in
@@ -248,13 +248,13 @@ not_found_run : (opened : LinkParameters) (link : ℕ) (addr : List ℕ) (units 
     → IsSession opened (terms_with units invalidates) → IsJobsRun opened link s (source_of s') (sink_of s') dialed.ended after.ended result (tells_finds uid gid export path s s' (Err end) finds).made []
 not_found_run opened link addr units invalidates uid gid export path before dialed after s s' end opens finds result is closes session =
     let exchanges = tells_finds uid gid export path s s' (Err end) finds in
-    let has = does_as {A = List ℕ} {B = Unit {0}} (Err end) result s.bytes s'.bytes s.requester s'.requester exchanges (λ e ended. same_end {A = List ℕ} result end e is ended) (has_finds uid gid export path s s' (Err end) finds) in
+    let has = does_as {A = List ℕ} {B = Unit {0}} (Err end) result s s' exchanges (λ e ended. same_end {A = List ℕ} result end e is ended) (has_finds uid gid export path s s' (Err end) finds) in
     let done = has opened link [] session.fine (sessions_begin_lem addr (terms_with units invalidates) before dialed s opened link opens session.first_xid session.first_stag session.wished) in
     alone_run opened link addr (terms_with units invalidates) before dialed after s opens (source_of s') (sink_of s') s'.bytes.read s'.requester result exchanges session.wished.1.1 (ap (λ (t : SideTerms). t.number) session.wished.1.0) done closes
 
 -- the session of a link
 abbrev pub session_of : LinkAt → SessionAt
-session_of mid = record { bytes = bytes_at mid; requester = mid.requester; source_faults = mid.source.faults; sink_faults = mid.sink.faults }
+session_of mid = view_at mid
 
 -- GETATTR gave no size
 no_size_run : (opened : LinkParameters) (link : ℕ) (addr : List ℕ) (units : ℕ) (invalidates : Bool) (uid gid : ℕ) (export path file : List ℕ) (before dialed after : DialerAt) (s s' : SessionAt) (opens : Opens addr (terms_with units invalidates) before dialed s)
@@ -262,14 +262,14 @@ no_size_run : (opened : LinkParameters) (link : ℕ) (addr : List ℕ) (units : 
     → HangsUp opens.number mid.source mid.sink dialed after → IsSession opened (terms_with units invalidates)
     → IsJobsRun opened link s mid.source mid.sink dialed.ended after.ended result
     ((tells_finds uid gid export path s s' (Ok file) finds).made
-    ++ (asked_exchanges getattr_result (getattr_call uid gid file) (bytes_at (link_of s')) (bytes_at mid) (link_of s').requester mid.requester (Err end) gets.asks).made) []
+    ++ (asked_exchanges getattr_result (getattr_call uid gid file) (view_at (link_of s')) (view_at mid) (Err end) gets.asks).made) []
 no_size_run opened link addr units invalidates uid gid export path file before dialed after s s' opens finds mid end gets result is hangs session =
     let call = getattr_call uid gid file in
     let found = tells_finds uid gid export path s s' (Ok file) finds in
-    let asked = asked_exchanges getattr_result call (bytes_at (link_of s')) (bytes_at mid) (link_of s').requester mid.requester (Err end) gets.asks in
-    let second = does_as {A = Attributes} {B = Unit {0}} (Err end) result s'.bytes (bytes_at mid) s'.requester mid.requester asked (λ e ended. same_end {A = Attributes} result end e is ended)
+    let asked = asked_exchanges getattr_result call (view_at (link_of s')) (view_at mid) (Err end) gets.asks in
+    let second = does_as {A = Attributes} {B = Unit {0}} (Err end) result s' (view_at mid) asked (λ e ended. same_end {A = Attributes} result end e is ended)
     (has_request getattr_result call s' (session_of mid) (Err end) (gets.asks, (gets.source_count, gets.sink_count))) in
-    let has = does_both {A = List ℕ} {B = Unit {0}} file result s.bytes s'.bytes (bytes_at mid) s.requester s'.requester mid.requester found asked (has_finds uid gid export path s s' (Ok file) finds) second in
+    let has = does_both {A = List ℕ} {B = Unit {0}} file result s s' (view_at mid) found asked (has_finds uid gid export path s s' (Ok file) finds) second in
     let done = has opened link [] session.fine (sessions_begin_lem addr (terms_with units invalidates) before dialed s opened link opens session.first_xid session.first_stag session.wished) in
     alone_run opened link addr (terms_with units invalidates) before dialed after s opens mid.source mid.sink mid.read mid.requester result (and_then found asked) session.wished.1.1 (ap (λ (t : SideTerms). t.number) session.wished.1.0) done hangs
 
@@ -286,7 +286,7 @@ jobs_have_a_run_lem get before after out out' result (Found dialed s s' file ope
         → SaysOfFile (λ source sink made history. IsJobsRun opened link s source sink dialed.ended after.ended result made history) (tells_finds get.uid get.gid get.export get.path s s' (Ok file) finds).made
         get.uid get.gid file s' hangs.source hangs.sink out.taken out'.taken result reads
     by (NoAttributes mid end gets is same none) =
-        let made = found ++ (asked_exchanges getattr_result (getattr_call get.uid get.gid file) (bytes_at (link_of s')) (bytes_at mid) (link_of s').requester mid.requester (Err end) gets.asks).made in
+        let made = found ++ (asked_exchanges getattr_result (getattr_call get.uid get.gid file) (view_at (link_of s')) (view_at mid) (Err end) gets.asks).made in
         let hung : HangsUp opens.number mid.source mid.sink dialed after =
         subst (λ (i : SourceAt). HangsUp opens.number i mid.sink dialed after) same.0 (subst (λ (o : SinkAt). HangsUp opens.number hangs.source o dialed after) same.1 hangs.hangs_up) in
         let run = no_size_run opened link get.addr get.units get.invalidates get.uid get.gid get.export get.path file before dialed after s s' opens finds mid end gets result is hung session in

@@ -17,7 +17,7 @@ use Rattle.nr_shared.specs.Histories.{Allows, AreAllowed, mark_at}
 use Rattle.nr_plain.specs.History.{setup_in}
 use Rattle.nr_byte_laws.proofs.ByteClients.{none_again}
 use Rattle.nr_client.specs.declared.client_end.ClientEnd.{ClientEnd}
-use Rattle.nr_client.specs.Jobs.{FileReads, ReadsFileByJobs, bytes_at}
+use Rattle.nr_client.specs.Jobs.{FileReads, ReadsFileByJobs, view_at}
 use Rattle.nr_client.specs.Jobs.ReadsFileByJobs.{NoAttributes, Shared}
 use Rattle.nr_client.specs.Reading.{piece_left}
 use Rattle.nr_client.specs.Requests.{getattr_call, getattr_result}
@@ -120,7 +120,7 @@ jobs_are_typed_lem limits first J opened link outside outside' end connection ge
         → SaysOfFile (λ source sink made history. (ran : IsJobsRun opened link s source sink dialed.ended after.ended result made history) → (both : List Mark) → AreSidesOf link ran.run connection.ended.run both →
         IsTyped both) (tells_finds get.uid get.gid get.export get.path s s' (Ok file) finds).made get.uid get.gid file s' hangs.source hangs.sink out.taken out'.taken result reads
     by (NoAttributes mid why gets is same none) = λ ran both sides.
-        let asked = (asked_exchanges getattr_result call (bytes_at (link_of s')) (bytes_at mid) (link_of s').requester mid.requester (Err why) gets.asks).made in
+        let asked = (asked_exchanges getattr_result call (view_at (link_of s')) (view_at mid) (Err why) gets.asks).made in
         let of_asked : AreBytes found → CallsAreBytes asked =
         (λ all. (request_bytes (λ (value : Attributes). Unit {0}) getattr_result call (asks all) (λ outcome value o e. tt) s' (session_of mid) (Err why) (gets.asks, (gets.source_count, gets.sink_count))).0) in
         typed (found ++ asked) [] ran (both_calls found asked finding.0 of_asked) (λ all k. tt) both sides

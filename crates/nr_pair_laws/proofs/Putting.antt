@@ -8,16 +8,15 @@ use Rattle.nr_words.specs.Limits.{mount_path_max}
 use Rattle.nr_reduce.specs.declared.call.Call.{Call}
 use Rattle.nr_reduce.specs.declared.call.Outcome.{Outcome}
 use Rattle.nr_reduce.specs.declared.mark.Entry.{Entry}
-use Rattle.nr_requester.specs.RequesterState.{RequesterSide}
 use Rattle.nr_plain.specs.Setup.{Setup}
 use Rattle.nr_client.specs.declared.client_end.ClientEnd.TheVariants as client
 use Rattle.nr_client.specs.Following.{EndsWith, Follows, MakesCalls, Next}
 use Rattle.nr_client.specs.Following.Next.{Calls, Returns}
 use Rattle.nr_client.specs.Requests.{mnt_call, mnt_result}
-use Rattle.nr_client.specs.Transfers.{LinkBytes}
 use Rattle.nr_client.specs.Walking.{parent_next}
 use Rattle.nr_client.specs.Writing.{EndsWriting, WritesFile, writing}
 use Rattle.nr_client.specs.Writing.EndsWriting.{FollowsInput, InputFails}
+use Rattle.nr_client.specs.Views.{LinkView}
 use Rattle.nr_commands.specs.Commands.{FindsParent, Mounts, WritesIn}
 use Rattle.nr_commands.specs.Sessions.{Fails, Request, SessionAt}
 use Rattle.nr_service_laws.specs.Exchanges.{Exchange, end_exchanges, followed_exchanges, made_exchanges, none, tells_finds_parent, tells_mounts, tells_request, tells_requests, tells_writes_in, within_exchanges, write_exchanges, write_exchanges_by}
@@ -47,13 +46,13 @@ module _ (s : Setup) (J : List Entry) (names : List (List ℕ)) (last : ℕ) whe
   on_call : {A : Type 0} (next : Next A) (call : Call) (P : Call → Type 0) → next ≡ Calls call → P call → OnCall next P
   on_call next call P is holds = subst (λ (n : Next _). OnCall n P) (sym is) holds
 
-  pub made_in_order : {A : Type 0} (request : List Outcome → Next A) (os : List Outcome) (b b' : LinkBytes) (h h' : RequesterSide) (made : MakesCalls request os b b' h h') (least : ℕ) (rest : List Exchange)
-      → IsKept least ((made_exchanges request os b b' h h' made).made ++ rest) → Part request os least rest
-  made_in_order request [] b b' h h' made least rest k = record { to = least; made = refl; later = k }
-  made_in_order {A} request (o ∷ os) b b' h h' (call, c, i, (is, (answers, more))) least rest k =
+  pub made_in_order : {A : Type 0} (request : List Outcome → Next A) (os : List Outcome) (b b' : LinkView) (made : MakesCalls request os b b') (least : ℕ) (rest : List Exchange)
+      → IsKept least ((made_exchanges request os b b' made).made ++ rest) → Part request os least rest
+  made_in_order request [] b b' made least rest k = record { to = least; made = refl; later = k }
+  made_in_order {A} request (o ∷ os) b b' (call, c, (is, (answers, more))) least rest k =
       let place : ℕ = k.answered.0 in
       let a : IsAnsweredAt s J call o place = k.answered.1.0 in
-      let part = made_in_order (λ later. request (o ∷ later)) os c b' i h' more (place_after s J call o place a) rest (record { answered = k.answered.1.1.1; kept = k.kept.1 }) in
+      let part = made_in_order (λ later. request (o ∷ later)) os c b' more (place_after s J call o place a) rest (record { answered = k.answered.1.1.1; kept = k.kept.1 }) in
       record {
         to = part.to;
         made = on_call (request []) call (λ x. (place : ℕ) × (answered : IsAnsweredAt s J x o place) × ((least ≤ place) × (KeepPath s J root_handle names least place
@@ -68,20 +67,20 @@ module _ (s : Setup) (J : List Entry) (names : List (List ℕ)) (last : ℕ) whe
     pub part : Part request outcomes least rest
     pub gives : request outcomes ≡ Returns (Ok value)
 
-  no_more : {A : Type 0} (next : Next A) (b b' : LinkBytes) (h h' : RequesterSide) (value : A) (ends : EndsWith next b b' h h' (Ok value))
-      → (next ≡ Returns (Ok value)) × ((end_exchanges next b b' h h' (Ok value) ends).made ≡ [])
-  no_more (Returns result) b b' h h' value ends = (ap Returns ends.0, refl)
-  no_more (Calls call) b b' h h' value (end, (is, unanswered)) = absurd cc
+  no_more : {A : Type 0} (next : Next A) (b b' : LinkView) (value : A) (ends : EndsWith next b b' (Ok value))
+      → (next ≡ Returns (Ok value)) × ((end_exchanges next b b' (Ok value) ends).made ≡ [])
+  no_more (Returns result) b b' value ends = (ap Returns ends.0, refl)
+  no_more (Calls call) b b' value (end, (is, unanswered)) = absurd cc
 
-  pub followed : {A : Type 0} (request : List Outcome → Next A) (b b' : LinkBytes) (h h' : RequesterSide) (value : A) (f : Follows request b b' h h' (Ok value)) (least : ℕ) (rest : List Exchange)
-      → IsKept least ((followed_exchanges request b b' h h' (Ok value) f).made ++ rest) → Done request value least rest
-  followed request b b' h h' value f least rest k =
-      let ends = no_more (request f.outcomes) f.between b' f.side h' value f.ends in
-      let first = (made_exchanges request f.outcomes b f.between h f.side f.made).made in
-      let whole : (followed_exchanges request b b' h h' (Ok value) f).made ++ rest ≡ first ++ rest = ap (λ (l : List Exchange). (first ++ l) ++ rest) ends.1 ∙ ap (λ (l : List Exchange). l ++ rest) (append-nil first) in
+  pub followed : {A : Type 0} (request : List Outcome → Next A) (b b' : LinkView) (value : A) (f : Follows request b b' (Ok value)) (least : ℕ) (rest : List Exchange)
+      → IsKept least ((followed_exchanges request b b' (Ok value) f).made ++ rest) → Done request value least rest
+  followed request b b' value f least rest k =
+      let ends = no_more (request f.outcomes) f.between b' value f.ends in
+      let first = (made_exchanges request f.outcomes b f.between f.made).made in
+      let whole : (followed_exchanges request b b' (Ok value) f).made ++ rest ≡ first ++ rest = ap (λ (l : List Exchange). (first ++ l) ++ rest) ends.1 ∙ ap (λ (l : List Exchange). l ++ rest) (append-nil first) in
       record {
         outcomes = f.outcomes;
-        part = made_in_order request f.outcomes b f.between h f.side f.made least rest (subst (λ (l : List Exchange). IsKept least l) whole k);
+        part = made_in_order request f.outcomes b f.between f.made least rest (subst (λ (l : List Exchange). IsKept least l) whole k);
         gives = ends.0;
       }
 
@@ -131,7 +130,7 @@ module _ (s : Setup) (J : List Entry) (names : List (List ℕ)) (last : ℕ) whe
         root = root;
         between = second ++ rest;
         mount = m;
-        finds = followed (parent_next uid gid root path) mid.bytes after.bytes mid.requester after.requester (dir, name) requests.0 m.part.to rest m.part.later;
+        finds = followed (parent_next uid gid root path) mid after (dir, name) requests.0 m.part.to rest m.part.later;
       }
   found uid gid export path dir name before after (inr (end, (first, wrong))) least rest k = absurd cc
 
@@ -143,16 +142,16 @@ module _ (s : Setup) (J : List Entry) (names : List (List ℕ)) (last : ℕ) whe
     pub writes : Done (writing uid gid dir name bytes) tt least []
 
   file_written : (uid gid : ℕ) (dir name : List ℕ) (before after : SessionAt) (input input' : SourceAt) (least : ℕ)
-      (w : WritesFile uid gid dir name before.bytes after.bytes before.requester after.requester input.left input.given input'.left input'.given (Ok tt))
-      → IsKept least ((write_exchanges uid gid dir name before.bytes after.bytes before.requester after.requester input.left input.given input'.left input'.given (Ok tt) w).made ++ [])
+      (w : WritesFile uid gid dir name before after input.left input.given input'.left input'.given (Ok tt))
+      → IsKept least ((write_exchanges uid gid dir name before after input.left input.given input'.left input'.given (Ok tt) w).made ++ [])
       → HasPut uid gid dir name w.handed w.rest input input' least
   file_written uid gid dir name before after input input' least w k = by w.calls k
     where
-      by : (calls : EndsWriting uid gid dir name w.handed w.rest before.bytes after.bytes before.requester after.requester (Ok tt))
-          → IsKept least ((write_exchanges_by uid gid dir name w.handed w.rest before.bytes after.bytes before.requester after.requester (Ok tt) calls).made ++ []) → HasPut uid gid dir name w.handed w.rest input input' least
+      by : (calls : EndsWriting uid gid dir name w.handed w.rest before after (Ok tt))
+          → IsKept least ((write_exchanges_by uid gid dir name w.handed w.rest before after (Ok tt) calls).made ++ []) → HasPut uid gid dir name w.handed w.rest input input' least
       by (FollowsInput follows count ahead) k =
           let whole : w.handed ++ w.rest ≡ w.handed = ap (λ (l : List ℕ). w.handed ++ l) w.is_read ∙ append-nil w.handed in
-          let d = followed (writing uid gid dir name (w.handed ++ w.rest)) before.bytes after.bytes before.requester after.requester tt follows least [] k in
+          let d = followed (writing uid gid dir name (w.handed ++ w.rest)) before after tt follows least [] k in
           record { all_read = w.is_read; hands_out = w.hands_out; all = at_end input'.left w.rest w.is_rest w.is_read; writes = subst (λ (l : List ℕ). Done (writing uid gid dir name l) tt least []) whole d }
       by (InputFails outcomes wrong made ahead) k = absurd cc
 

@@ -25,7 +25,6 @@ use Rattle.nr_reduce.specs.declared.call.Call.{Call}
 use Rattle.nr_reduce.specs.declared.call.Outcome.{Outcome}
 use Rattle.nr_reduce.specs.declared.call.Outcome.TheVariants as outcomes
 use Rattle.nr_reduce.specs.declared.mark.Entry.{Entry}
-use Rattle.nr_requester.specs.RequesterState.{RequesterSide}
 use Rattle.nr_tree.specs.Sane.{IsSane}
 use Rattle.nr_tree.specs.declared.node.Content.TheVariants.{Regular}
 use Rattle.nr_plain.specs.Journal.{tree_at}
@@ -42,8 +41,8 @@ use Rattle.nr_client.specs.Reading.EndsReading.{EndsByReplies, NotAnswered, NotS
 use Rattle.nr_client.specs.Reading.FileRead.{NothingKnown, ReadEnds, SizeKnown}
 use Rattle.nr_client.specs.Requests.{getattr_result, handle_of as root_of, lookup_call, mnt_call, mnt_result}
 use Rattle.nr_client.specs.Results.{Gives, mount_done, result_by_reading, result_of_outcome, results_in, results_or}
-use Rattle.nr_client.specs.Transfers.{LinkBytes}
 use Rattle.nr_client.specs.Walking.{object_result, walk_from, walk_next}
+use Rattle.nr_client.specs.Views.{LinkView}
 use Rattle.nr_commands.specs.Commands.{Finds}
 use Rattle.nr_commands.specs.Sessions.{Fails, Request, SessionAt}
 use Rattle.nr_service_laws.specs.Exchanges.{Exchange, followed_exchanges, made_exchanges, read_exchanges, steps_exchanges, tells_finds, tells_mounts}
@@ -124,22 +123,22 @@ record EndsByStatus {A : Type 0} (R : Call → Outcome → Type 0) (request : Li
   is : request outcomes ≡ Returns (Err (client.Nfs status))
 
 -- the end of a call without an answer is no status
-unanswered : (call : Call) (b c : LinkBytes) (h i : RequesterSide) (status : Status) (end : ClientEnd) → end ≡ client.Nfs status → Unanswered call b c h i end → ⊥
-unanswered call b c h i status end nfs (inl (cause, (is, rest))) = absurd (let wrong : client.Nfs status ≡ client.Link cause = sym nfs ∙ is in cc)
-unanswered call b c h i status end nfs (inr (is, rest)) = absurd (let wrong : client.Nfs status ≡ client.Memory = sym nfs ∙ is in cc)
+unanswered : (call : Call) (b c : LinkView) (status : Status) (end : ClientEnd) → end ≡ client.Nfs status → Unanswered call b c end → ⊥
+unanswered call b c status end nfs (inl (cause, (is, rest))) = absurd (let wrong : client.Nfs status ≡ client.Link cause = sym nfs ∙ is in cc)
+unanswered call b c status end nfs (inr (is, rest)) = absurd (let wrong : client.Nfs status ≡ client.Memory = sym nfs ∙ is in cc)
 
 the_end : {A : Type 0} (given : Result A ClientEnd) (end : ClientEnd) (status : Status) → given ≡ Err (client.Nfs status) → given ≡ Err end → end ≡ client.Nfs status
 the_end given end status is same = (let both : Err end ≡ Err (client.Nfs status) = sym same ∙ is in let nfs : end ≡ client.Nfs status = cc in nfs)
 
-ended_by : {A : Type 0} (R : Call → Outcome → Type 0) (request : List Outcome → Next A) (b c : LinkBytes) (h i : RequesterSide) (status : Status) (given : Result A ClientEnd) → given ≡ Err (client.Nfs status)
-    → (f : Follows request b c h i given) (before : List OpenRead) → AreJudged R before (followed_exchanges request b c h i given f).made → EndsByStatus R request status
-ended_by {A} R request b c h i status given is f before are =
-    let made = (made_exchanges request f.outcomes b f.between h f.side f.made).made in
-    record { outcomes = f.outcomes; answers = answers_of R request f.outcomes b f.between h f.side f.made before (judged_both R before made _ are).0; is = ends (request f.outcomes) f.ends }
+ended_by : {A : Type 0} (R : Call → Outcome → Type 0) (request : List Outcome → Next A) (b c : LinkView) (status : Status) (given : Result A ClientEnd) → given ≡ Err (client.Nfs status)
+    → (f : Follows request b c given) (before : List OpenRead) → AreJudged R before (followed_exchanges request b c given f).made → EndsByStatus R request status
+ended_by {A} R request b c status given is f before are =
+    let made = (made_exchanges request f.outcomes b f.between f.made).made in
+    record { outcomes = f.outcomes; answers = answers_of R request f.outcomes b f.between f.made before (judged_both R before made _ are).0; is = ends (request f.outcomes) f.ends }
   where
-    ends : (next : Next A) → EndsWith next f.between c f.side i given → next ≡ Returns (Err (client.Nfs status))
+    ends : (next : Next A) → EndsWith next f.between c given → next ≡ Returns (Err (client.Nfs status))
     ends (Returns result) (gives, same) = ap (λ (r : Result A ClientEnd). Returns r) (subst (λ (g : Result A ClientEnd). Gives g result) is gives)
-    ends (Calls call) (end, (same, gone)) = absurd (unanswered call f.between c f.side i status end (the_end given end status is same) gone)
+    ends (Calls call) (end, (same, gone)) = absurd (unanswered call f.between c status end (the_end given end status is same) gone)
 
 -- ---- MNT ends with no status of NFS
 
@@ -328,10 +327,10 @@ module _ (s : Setup) (J : List Entry) (uid gid : ℕ) (ids : AreIds uid gid) (na
         → AreJudged Each [] (tells_finds uid gid export path before after (Err end) finds).made → Cause status
     finds_refused before after end nfs (inl (root, (m, (mounts, walks)))) are =
         let mounts_made = (tells_mounts uid gid export before m (Ok root) mounts).made in
-        let walks_made = (followed_exchanges (walk_next uid gid root path) m.bytes after.bytes m.requester after.requester (Err end) walks.0).made in
+        let walks_made = (followed_exchanges (walk_next uid gid root path) m after (Err end) walks.0).made in
         let parts = judged_both Each [] mounts_made walks_made are in
         let root_same = root_is root (mounted Each uid gid export before m root (nat_lt mount_path_max (length export)) mounts parts.0) in
-        let walk = ended_by Each (walk_next uid gid root path) m.bytes after.bytes m.requester after.requester status (Err end) (ap (λ (e : ClientEnd). Err e) nfs) walks.0 (reads_after [] mounts_made) parts.1 in
+        let walk = ended_by Each (walk_next uid gid root path) m after status (Err end) (ap (λ (e : ClientEnd). Err e) nfs) walks.0 (reads_after [] mounts_made) parts.1 in
         walk_refused names [] root walk.outcomes status (path_short path names names_are) refl (leads_to_root root root_same) (ap length root_same ∙ length_handle 1)
         (walks_since root walk.outcomes walk.answers) (walks_told root walk.outcomes walk.answers) (walks_to root walk.outcomes (Returns (Err (client.Nfs status))) walk.is)
     finds_refused before after end nfs (inr (why, (mounts, same))) are =
@@ -339,41 +338,41 @@ module _ (s : Setup) (J : List Entry) (uid gid : ℕ) (ids : AreIds uid gid) (na
         no_mount uid gid export before after why status is (nat_lt mount_path_max (length export)) mounts)
 
     -- the replies by which a file was read up to a status
-    reads_end : (file : List ℕ) (b c : LinkBytes) (g i : RequesterSide) (taken taken' : Option (List ℕ)) (end : ClientEnd) → end ≡ client.Nfs status → (f : ReadsFile uid gid file b c g i taken taken' (Err end)) (before : List OpenRead)
-        → AreJudged Each before (read_exchanges uid gid file b c g i taken taken' (Err end) f).made → EndsByStatus Each (reading uid gid file) status
-    reads_end file b c g i taken taken' end nfs f before are =
-        by f.ends (steps_judged Each uid gid file before b g f.between f.last f.made (judged_both Each before (steps_exchanges uid gid file (starts_at b g) f.between f.last f.made).made _ are).0).answers
+    reads_end : (file : List ℕ) (b c : LinkView) (taken taken' : Option (List ℕ)) (end : ClientEnd) → end ≡ client.Nfs status → (f : ReadsFile uid gid file b c taken taken' (Err end)) (before : List OpenRead)
+        → AreJudged Each before (read_exchanges uid gid file b c taken taken' (Err end) f).made → EndsByStatus Each (reading uid gid file) status
+    reads_end file b c taken taken' end nfs f before are =
+        by f.ends (steps_judged Each uid gid file before b f.between f.last f.made (judged_both Each before (steps_exchanges uid gid file (starts_at b) f.between f.last f.made).made _ are).0).answers
       where
         returned : (next : Next (Unit {0})) → (◌≡◌ {A = Result (Unit {0}) ClientEnd} (Err end) (Err client.Memory)) ⊎ (next ≡ Returns (Err end)) → EndsWithStatus status next
         returned next (inl wrong) = absurd (let memory : end ≡ client.Memory = cc in let clash : client.Nfs status ≡ client.Memory = sym nfs ∙ memory in cc)
         returned next (inr is) = is ∙ ap (λ (e : ClientEnd). Returns (Err e)) nfs
 
-        by : EndsReading uid gid file f.last f.left c f.side taken taken' (Err end) → AreAnswers Each (reading uid gid file) f.last.outcomes → EndsByStatus Each (reading uid gid file) status
+        by : EndsReading uid gid file f.last f.left f.ended taken taken' (Err end) → AreAnswers Each (reading uid gid file) f.last.outcomes → EndsByStatus Each (reading uid gid file) status
         by (EndsByReplies same is waits takes) answers = record { outcomes = f.last.outcomes; answers = answers; is = returned (reading uid gid file f.last.outcomes) is }
         by (OutputFails wrong same waits takes) answers = absurd (let fault : end ≡ client.OutputFault = cc in let clash : client.Nfs status ≡ client.OutputFault = sym nfs ∙ fault in cc)
         by (NotAnswered call why alone is gone waits takes) answers =
-            absurd (unanswered call f.last.bytes c f.last.side f.side status why (the_end (Err end) why status (ap (λ (e : ClientEnd). Err e) nfs) is) gone)
+            absurd (unanswered call f.last.link f.ended status why (the_end (Err end) why status (ap (λ (e : ClientEnd). Err e) nfs) is) gone)
         by (NotSubmitted call why ahead is refused waits takes) answers =
             absurd (let link : end ≡ client.Link why = cc in let clash : client.Nfs status ≡ client.Link why = sym nfs ∙ link in cc)
         by (OldestForgotten read why full oldest is forgets waits takes) answers =
             absurd (let link : end ≡ client.Link why = cc in let clash : client.Nfs status ≡ client.Link why = sym nfs ∙ link in cc)
 
     reads_refused : (out out' : SinkAt) (before mid after : SessionAt) (text : Result (List ℕ) ClientEnd) (file : List ℕ) (finds : Finds uid gid export path before mid (Ok file)) (end : ClientEnd) → end ≡ client.Nfs status
-        → (reads : ReadsFile uid gid file mid.bytes after.bytes mid.requester after.requester out.taken out'.taken (Err end))
-        → AreJudged Each [] ((tells_finds uid gid export path before mid (Ok file) finds).made ++ (read_exchanges uid gid file mid.bytes after.bytes mid.requester after.requester out.taken out'.taken (Err end) reads).made)
+        → (reads : ReadsFile uid gid file mid after out.taken out'.taken (Err end))
+        → AreJudged Each [] ((tells_finds uid gid export path before mid (Ok file) finds).made ++ (read_exchanges uid gid file mid after out.taken out'.taken (Err end) reads).made)
         → Cause status
     reads_refused out out' before mid after text file (inl (root, (m, (mounts, walks)))) end nfs reads are =
         let finds_made = (tells_finds uid gid export path before mid (Ok file) (inl (root, (m, (mounts, walks))))).made in
-        let reads_made = (read_exchanges uid gid file mid.bytes after.bytes mid.requester after.requester out.taken out'.taken (Err end) reads).made in
+        let reads_made = (read_exchanges uid gid file mid after out.taken out'.taken (Err end) reads).made in
         let mounts_made = (tells_mounts uid gid export before m (Ok root) mounts).made in
-        let walks_made = (followed_exchanges (walk_next uid gid root path) m.bytes mid.bytes m.requester mid.requester (Ok file) walks.0).made in
+        let walks_made = (followed_exchanges (walk_next uid gid root path) m mid (Ok file) walks.0).made in
         let parts = judged_both Each [] finds_made reads_made are in
         let found_parts = judged_both Each [] mounts_made walks_made parts.0 in
         let root_same = root_is root (mounted Each uid gid export before m root (nat_lt mount_path_max (length export)) mounts found_parts.0) in
-        let walk = followed Each (walk_next uid gid root path) m.bytes mid.bytes m.requester mid.requester file walks.0 (reads_after [] mounts_made) found_parts.1 in
+        let walk = followed Each (walk_next uid gid root path) m mid file walks.0 (reads_after [] mounts_made) found_parts.1 in
         let found = walk_found s J uid gid ids names names [] root walk.outcomes from file (path_short path names names_are) refl (leads_to_root root root_same) (ap length root_same ∙ length_handle 1)
         (walks_since root walk.outcomes walk.answers) (walks_to root walk.outcomes (Returns (Ok file)) walk.is) in
-        let read = reads_end file mid.bytes after.bytes mid.requester after.requester out.taken out'.taken end nfs reads (reads_after [] finds_made) parts.1 in
+        let read = reads_end file mid after out.taken out'.taken end nfs reads (reads_after [] finds_made) parts.1 in
         let both : Some file ≡ Some h.file = sym found.0 ∙ h.leads in
         let same : file ≡ h.file = cc in
         reading_refused read.outcomes status
@@ -389,5 +388,5 @@ gets_end_for_a_cause_lem s J uid gid export path names bytes out out' before aft
     finds_refused s J uid gid ids names bytes from h sane made export path names_are keep status before after end (the_end (Err (client.Nfs status)) end status refl is) finds (each_placed_call s J from made are)
 gets_end_for_a_cause_lem s J uid gid export path names bytes out out' before after status from h (inl (file, (mid, (finds, (Ok done, ((reads, counts), silent)))))) sane ids names_are keep are = absurd silent
 gets_end_for_a_cause_lem s J uid gid export path names bytes out out' before after status from h (inl (file, (mid, (finds, (Err end, ((reads, counts), silent)))))) sane ids names_are keep are =
-    let made = (tells_finds uid gid export path before mid (Ok file) finds).made ++ (read_exchanges uid gid file mid.bytes after.bytes mid.requester after.requester out.taken out'.taken (Err end) reads).made in
+    let made = (tells_finds uid gid export path before mid (Ok file) finds).made ++ (read_exchanges uid gid file mid after out.taken out'.taken (Err end) reads).made in
     reads_refused s J uid gid ids names bytes from h sane made export path names_are keep status out out' before mid after (Err (client.Nfs status)) file finds end (sym silent) reads (each_placed_call s J from made are)

@@ -26,7 +26,7 @@ use Rattle.nr_client.specs.declared.call_end.CallEnd.TheVariants as calls
 use Rattle.nr_client.specs.declared.client_end.ClientEnd.{ClientEnd}
 use Rattle.nr_client.specs.declared.client_end.ClientEnd.TheVariants as client
 use Rattle.nr_client.specs.Dialing.{DialerAt}
-use Rattle.nr_client.specs.Jobs.{ReadsFileByJobs, bytes_at}
+use Rattle.nr_client.specs.Jobs.{ReadsFileByJobs, view_at}
 use Rattle.nr_client.specs.Jobs.ReadsFileByJobs.{NoAttributes, Shared}
 use Rattle.nr_client.specs.Requests.{getattr_call, getattr_result}
 use Rattle.nr_commands.specs.ByJobs.{GetsByJobs, link_of}
@@ -83,7 +83,7 @@ pub record IsJobsRun (opened : LinkParameters) (link : ℕ) (s : SessionAt) (sou
 abbrev pub SaysOfFile : (Says : (source : SourceAt) (sink : SinkAt) → List Exchange → List Entry → Type 0) (found : List Exchange) (uid gid : ℕ) (file : List ℕ) (s : SessionAt) (source : SourceAt) (sink : SinkAt)
     (taken taken' : Option (List ℕ)) (result : Result (Unit {0}) ClientEnd) → ReadsFileByJobs uid gid file (link_of s) source sink taken taken' result → Type 0
 SaysOfFile Says found uid gid file s source sink taken taken' result (NoAttributes link end gets is same none) =
-    Says source sink (found ++ (asked_exchanges getattr_result (getattr_call uid gid file) (bytes_at (link_of s)) (bytes_at link) (link_of s).requester link.requester (Err end) gets.asks).made) []
+    Says source sink (found ++ (asked_exchanges getattr_result (getattr_call uid gid file) (view_at (link_of s)) (view_at link) (Err end) gets.asks).made) []
 SaysOfFile Says found uid gid file s source sink taken taken' result (Shared link outcome attributes gets shared) =
     Says source sink (found ++ Answered (getattr_call uid gid file) outcome ∷ []) shared.back.history
 

@@ -62,7 +62,7 @@ holds_more : (opened : LinkParameters) (link : ℕ) (run : List Mark) (mark : Ma
     AllByRecursion (StillHolds (client opened link (run ++ mark ∷ [])).state.next_xid (client opened link (run ++ mark ∷ [])).state) answers
 holds_more opened link run mark answers quiet h =
     all_as answers (λ (a : AnsweredCall) g. subst (λ (e : EndState ClientState). StillHolds e.state.next_xid e.state a) (sym (client_one opened link run mark))
-        (silent_still opened (client opened link run) (events_at link Initiator run mark) a (are_silent (events_at link Initiator run mark) quiet.0 quiet.1) g)) h
+    (silent_still opened (client opened link run) (events_at link Initiator run mark) a (are_silent (events_at link Initiator run mark) quiet.0 quiet.1) g)) h
 
 state_accesses : (opened : LinkParameters) (k : ClientState) (event : RunEvent) → IsNoFrame event → (client_state_after opened k event).accesses_received ≡ k.accesses_received
 unfolding client_state_after

@@ -10,6 +10,7 @@ use Rattle.nr_requester.specs.RequesterState.{RequesterSide}
 use Rattle.nr_requester.specs.KeptAnswers.{completed_of, is_due}
 use Rattle.nr_requester.specs.KeptOn.{MemoryAsKept, CountsAsKept, AgreesAsKept, EndAsKept, AnswersAreKept, ReleasesAsKept}
 use Rattle.nr_requester.specs.ReopenedLinks.{own_answers, own_side}
+use Rattle.nr_requester.specs.StoppedLinks.{AnswersStopped}
 use Rattle.nr_requester.proofs.Accepting.{counts_alike}
 use Rattle.nr_requester.proofs.CountedReleases.{all_but_named}
 use Rattle.nr_requester.proofs.DueAnswers.{Among, IsAnswer, due_of, of_filter, to_among}
@@ -43,5 +44,10 @@ own_accepted opened link h run c due there =
 
 pub answers_are_kept : AnswersAreKept
 answers_are_kept is_own earlier opened link h run c s =
+    let due : HaveDue opened link (own_side is_own h) run = have_due (map as_accepted opened.resumed) opened link (own_side is_own h) run s.answers in
+    due_of opened link (own_answers is_own h.state) run c due (own_accepted opened link (own_side is_own h) run c due)
+
+pub answers_stopped : AnswersStopped
+answers_stopped is_own earlier opened link h stopped run s c =
     let due : HaveDue opened link (own_side is_own h) run = have_due (map as_accepted opened.resumed) opened link (own_side is_own h) run s.answers in
     due_of opened link (own_answers is_own h.state) run c due (own_accepted opened link (own_side is_own h) run c due)

@@ -99,3 +99,4 @@ pub mod SameTerms
 pub mod SizedCalls
 pub mod SizedLinks
 pub mod NextOpened
+pub mod OwnAlike

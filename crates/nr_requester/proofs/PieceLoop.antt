@@ -331,13 +331,13 @@ stands_fed old new piece is opened link run s = subst (λ (h : RequesterSide). R
 
 abbrev pub FedOut : RequesterSide → List ℕ → RequesterSide → Type 0
 FedOut old piece new = (n : ℕ) × (RequesterRanOutAt (feeding_of old) piece n (feeding_of new)
-    × ((opened : LinkParameters) (link : ℕ) (run : List Mark) → RequesterRepresents opened link old run →
+    × (((opened : LinkParameters) (link : ℕ) (run : List Mark) → RequesterRepresents opened link old run →
     RequesterRunsOut opened link new (run ++ marks.Fed link Initiator (take n piece) ∷ []) (run ++ marks.Fed link Initiator (take n piece) ∷ []))
-    × StopsAfter old (take n piece) new)
+    × StopsAfter old (take n piece) new))
 
 out_fed : (old new : RequesterSide) (piece : List ℕ) (n : ℕ) → TakesFrames (feeding_of old) piece n (feeding_of new) → new.state.side.ended ≡ Some ends.Memory → (n ≤ length piece → CountsPiece old (take n piece) new) → FedOut old piece new
 out_fed old new piece n (inl all) memory counts = absurd (all.1.0 memory)
-out_fed old new piece n (inr out) memory counts = (n, (out, (λ opened link run s. piece_runs_out old new (take n piece) out.live out.out (counts out.within) opened link run s, piece_stops old new (take n piece) out.live out.out (counts out.within))))
+out_fed old new piece n (inr out) memory counts = (n, (out, ((λ opened link run s. piece_runs_out old new (take n piece) out.live out.out (counts out.within) opened link run s), piece_stops old new (take n piece) out.live out.out (counts out.within))))
 
 taken_fed : (old new : RequesterSide) (piece : List ℕ) (n : ℕ) → TakesFrames (feeding_of old) piece n (feeding_of new) → new.state.side.ended ≢ Some ends.Memory → (n ≤ length piece → CountsPiece old (take n piece) new) → new ≡ after_fed old piece new.staging
 taken_fed old new piece n (inl all) other counts =

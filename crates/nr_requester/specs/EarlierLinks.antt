@@ -66,7 +66,7 @@ EarlierRunsOut = (h after : RequesterSide) (piece : List ℕ) → RanOut (after_
 abbrev pub EarlierReopens : Type 0
 EarlierReopens = (h : RequesterSide) (staging : List ℕ) → KeepsEarlierBeside h (after_reopen h staging)
 
--- and with a call of another link that is handed over, given up, revoked or lost.
+-- and with a call of another link that is handed over or given up, and one that is revoked or lost.
 abbrev pub EarlierBeside : Type 0
 EarlierBeside = (is_own : ℕ → Bool) (opened : LinkParameters) (link : ℕ) (h : RequesterSide) (run more : List Mark) (xid : ℕ) → KeepsEarlier is_own opened link h run → is_own xid ≡ false → HasNoMark link more →
     KeepsEarlier is_own opened link (after_forget h xid) (run ++ more) × KeepsEarlier is_own opened link (after_revoke h xid) (run ++ more)

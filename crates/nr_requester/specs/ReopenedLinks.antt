@@ -98,6 +98,21 @@ next_own r xid = not (is_some (found_answer xid r))
 abbrev pub earlier_own : (ℕ → Bool) → RequesterState → ℕ → Bool
 earlier_own is_own r xid = is_own xid && is_some (found_answer xid r)
 
+-- ---- Which calls belong to a link
+
+-- These two say the same of the answers that it keeps, of the calls that are outstanding, and of those that still come.
+pub record AreAlike (is_own other : ℕ → Bool) (r : RequesterState) : Type 0 where
+  pub answered : AllByRecursion (λ a. is_own a.xid ≡ other a.xid) r.answered
+  pub outstanding : AllByRecursion (λ c. is_own c.xid ≡ other c.xid) r.outstanding
+  pub to_come : (xid : ℕ) → r.next_xid ≤ xid → is_own xid ≡ other xid
+
+-- So it keeps the same by either.
+abbrev pub AlikeAreKept : Type 0
+AlikeAreKept = (is_own other : ℕ → Bool) (opened : LinkParameters) (link : ℕ) (h : RequesterSide) (run : List Mark) → AreAlike is_own other h.state →
+    ((earlier : ℕ) → RequesterKeeps is_own earlier opened link h run → RequesterKeeps other earlier opened link h run)
+    × (((earlier : ℕ) (stopped : List Mark) → RequesterStops is_own earlier opened link h stopped run → RequesterStops other earlier opened link h stopped run)
+    × (KeepsEarlier is_own opened link h run → KeepsEarlier other opened link h run))
+
 -- ---- A requester whose link is the first
 
 abbrev pub FirstLinksAreKept : Type 0

@@ -1,5 +1,6 @@
 -- A requester that ran out of memory, on a link that may be one that was reopened, goes on from mark to mark, and keeps the law of its client.
-use Rattle.std.specs.Prelude.{◌≡◌, ℕ, ◌<◌, Bool, true, List, [], ◌∷◌, ◌++◌, length, take, None, Some, is_some}
+use Rattle.std.specs.Prelude.{◌≡◌, ℕ, ◌<◌, Bool, true, List, [], ◌∷◌, ◌++◌, length, map, take, None, Some, is_some}
+use Rattle.std.specs.List.{Contains}
 use Rattle.nr_wire.specs.declared.hello.Side.TheVariants.{Initiator}
 use Rattle.nr_link.specs.declared.end.End.TheVariants as ends
 use Rattle.nr_reduce.specs.declared.call.Call.{Call}
@@ -13,7 +14,8 @@ use Rattle.nr_reduce.specs.declared.mark.Mark.TheVariants as marks
 use Rattle.nr_reduce.specs.Asked.{IsAwaitedOrWaits, revoked_bytes}
 use Rattle.nr_reduce.specs.Credits.{credits_granted}
 use Rattle.nr_reduce.specs.Events.{events_at}
-use Rattle.nr_reduce.specs.History.{written_at, fed_at}
+use Rattle.nr_reduce.specs.History.{CompletedCall, written_at, fed_at}
+use Rattle.nr_reduce.specs.OutcomesDue.{outcomes_due}
 use Rattle.nr_reduce.specs.Run.{client}
 use Rattle.nr_reduce.specs.SubmitAnswer.{calls_counted}
 use Rattle.nr_requester.specs.declared.answer.AnsweredCall.{AnsweredCall}
@@ -23,10 +25,11 @@ use Rattle.nr_requester.specs.AfterPiece.{RanOut, after_piece}
 use Rattle.nr_requester.specs.Answers.{answer_of}
 use Rattle.nr_requester.specs.Buffers.{bytes_of_buffers}
 use Rattle.nr_requester.specs.CountedMarks.{has_bytes, marks_if}
+use Rattle.nr_requester.specs.KeptAnswers.{completed_of}
 use Rattle.nr_requester.specs.KeptLaw.{KeepsBoth}
 use Rattle.nr_requester.specs.Laws.{DueFirst, GivesUpNothing, HoldsPlaced}
 use Rattle.nr_requester.specs.OpenCalls.{buffers_of, found_answer, open_call, remaining_call}
-use Rattle.nr_requester.specs.ReopenedLinks.{RequesterStops, StopsAfter, StopsOn, StopsOnRevoke, own_side}
+use Rattle.nr_requester.specs.ReopenedLinks.{RequesterStops, StopsAfter, StopsOn, StopsOnRevoke, own_answers, own_side}
 
 -- what holds of each requester that ran out of memory and stands for some marks of its link
 abbrev pub OfEachStopped : (((ℕ → Bool) → LinkParameters → ℕ → RequesterSide → List Mark → List Mark → Type 0)) → Type 0
@@ -84,6 +87,11 @@ AgreesStopped = OfEachStopped (λ is_own opened link h stopped run. (h.state.sid
 -- The buffers of a call of this link that is left have what a revoke hands back by the marks.
 abbrev pub BuffersStopped : Type 0
 BuffersStopped = OfEachStopped (λ is_own opened link h stopped run. (xid : ℕ) → is_own xid ≡ true → is_some (remaining_call xid h.state) ≡ true → bytes_of_buffers (buffers_of xid h.state) ≡ revoked_bytes opened link run xid)
+
+-- The outcomes of the answers that belong to this link are those that are due, no more and no fewer.
+abbrev pub AnswersStopped : Type 0
+AnswersStopped = OfEachStopped (λ is_own opened link h stopped run. (c : CompletedCall) → (Contains (map completed_of (own_answers is_own h.state)) c → Contains (outcomes_due opened link run) c)
+    × (Contains (outcomes_due opened link run) c → Contains (map completed_of (own_answers is_own h.state)) c))
 
 -- Of the calls of this link whose answers wait, the one that was submitted first has the outcome that is due first.
 abbrev pub FirstStopped : Type 0

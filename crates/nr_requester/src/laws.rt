@@ -1,12 +1,12 @@
 //! Laws of a requester.
 
 ghost use Rattle.nr_requester.specs.Reopening.{CallsGoOn, NextBegins, NextLinksAreOpened};
-ghost use Rattle.nr_requester.specs.ReopenedLinks.{FirstLinksAreKept, FirstLinksStop};
+ghost use Rattle.nr_requester.specs.ReopenedLinks.{AlikeAreKept, FirstLinksAreKept, FirstLinksStop};
 ghost use Rattle.nr_requester.specs.Resends.{FeedIsMarks, FirstLinksResendNone};
 ghost use Rattle.nr_requester.specs.EarlierLinks.{EarlierGoes, EarlierCounts, EarlierCountsStopped, EarlierStays, EarlierSubmits, EarlierDrains, EarlierFeeds, EarlierRunsOut, EarlierReopens, EarlierBeside, EarlierDoneLaw, EarlierForgetLaw, EarlierRevokeLaw};
 ghost use Rattle.nr_requester.specs.KeptLaw.{NoMarksLaw, PieceLaw, SubmitLaw, DrainLaw, QueueLaw, OpenLaw, AwaitedLaw, RevokeLaw, ForgetLaw, DoneLaw, LostLaw};
 ghost use Rattle.nr_requester.specs.KeptOn.{SubmitKeepsOn, DrainKeepsOn, RevokeKeepsOn, ForgetKeepsOn, DoneKeepsOn, LostKeepsOn, OthersKeepOn, FeedKeepsTerms, AnswersAsKept, MemoryAsKept, CountsAsKept, AgreesAsKept, EndAsKept, AnswersAreKept, ReleasesAsKept, BuffersAreKept, FirstIsKept};
-ghost use Rattle.nr_requester.specs.StoppedLinks.{PieceStops, DrainStopsOn, RevokeStopsOn, ForgetStopsOn, DoneStopsOn, OthersStopOn, RefusesStopped, PieceStaysStopped, MemoryStopped, CountsStopped, AgreesStopped, BuffersStopped, FirstStopped, OpenStopped, AwaitedStopped, DrainStoppedLaw, RevokeStoppedLaw, ForgetStoppedLaw, DoneStoppedLaw};
+ghost use Rattle.nr_requester.specs.StoppedLinks.{PieceStops, DrainStopsOn, RevokeStopsOn, ForgetStopsOn, DoneStopsOn, OthersStopOn, RefusesStopped, PieceStaysStopped, MemoryStopped, CountsStopped, AgreesStopped, BuffersStopped, AnswersStopped, FirstStopped, OpenStopped, AwaitedStopped, DrainStoppedLaw, RevokeStoppedLaw, ForgetStoppedLaw, DoneStoppedLaw};
 ghost use Rattle.nr_requester.specs.Laws.{Begins, AnswersAsClient, AgreesAsClient, AgreesOut, CountsAsClient, CountsMarks, SubmitIsAMark, PieceIsAMark, PieceRunsOut, DrainIsAMark, RevokeIsAMark, RevokeStaysOut, ForgetIsAMark, DoneIsAMark, AnswersAreDue, AnswersOut, EndAsClient, FirstIsDueFirst, FirstOut, OthersLeaveIt, MemoryAsClient, MemoryOut, CountsOut, CountsMarksOut, RefusesOut, PieceStaysOut, OthersStayOut, LawBegins, OthersKeepLaw, RevokeKeepsLaw, BuffersArePlaced, RevokedOut, SubmitKeepsLaw, DrainKeepsLaw, DrainOutKeepsLaw, QueueIsAllDue, RefusedKeepsLaw, PieceKeepsLaw, DrainKeepsGrant, OpenIsAwaited, OpenOut, AwaitedIsOpen, AwaitedOut, ForgetKeepsLaw, ForgetOutKeepsLaw, DoneKeepsLaw, DoneOutKeepsLaw, LostKeepsLaw, NamedRegionIsNotCounted};
 
 /// A requester stands for the marks of its link, from its opening on: what it keeps is what the client of the run asks for, and what it
@@ -90,7 +90,8 @@ pub fn calls_go_on()
 /// accepts, a drain, a revoke, an answer that is given up or handed over, a call that is lost, and each mark that is no event of it. Through a piece
 /// of the server's stream it goes on with the Submits of all calls that can be sent again then. It answers a call as the client of the run
 /// does, and knows how many calls are outstanding and granted, what was agreed on, and why the link ended. The regions of its calls hold what that
-/// client's hold, and a revoke hands that back; the answers that belong to the link are the outcomes that are due.
+/// client's hold, and a revoke hands that back; the answers that belong to the link are the outcomes that are due. Which xids belong to the link
+/// matters for the answers that it keeps, the outstanding calls and those to come alone.
 pub fn reopened_links_go_on()
     ensures submit { SubmitKeepsOn }
     ensures drain { DrainKeepsOn }
@@ -110,6 +111,7 @@ pub fn reopened_links_go_on()
     ensures releases { ReleasesAsKept }
     ensures buffers { BuffersAreKept }
     ensures first { FirstIsKept }
+    ensures alike { AlikeAreKept }
 {}
 
 /// On such a link it keeps the client's law and the last grant, from no marks on: by a call that it accepts, a drain, a piece that it is fed with all
@@ -145,6 +147,7 @@ pub fn stopped_requesters_go_on()
     ensures counts { CountsStopped }
     ensures agrees { AgreesStopped }
     ensures buffers { BuffersStopped }
+    ensures answers { AnswersStopped }
     ensures first { FirstStopped }
 {}
 

@@ -378,7 +378,7 @@ some_opened terms = record { xid = omega arith; xid_fits = omega arith; stag = o
 pub given_by_peer : (c : Client Text) (before dialed : DialerAt) (s s' : SessionAt) (input input' : SourceAt) (out out' : SinkAt) (result : Result (Unit {0}) ClientEnd) → Opens c.addr (terms_of c) before dialed s
     → (prints : PrintsAll c s s' input input' out out' result)
     → GivenIs Any (PeerEnd c input (tells_text c.uid c.gid c.export c.action input input' out prints.written s s' prints.text prints.made).made (Rises input.faults input'.faults) (Rises out.faults out'.faults)) result
-    s'.bytes s'.requester
+    s'
 unfolding some_parameters
 given_by_peer c before dialed s s' input input' out out' result opens prints =
     let made = (tells_text c.uid c.gid c.export c.action input input' out prints.written s s' prints.text prints.made).made in

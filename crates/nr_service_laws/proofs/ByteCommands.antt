@@ -118,8 +118,8 @@ get_bytes : (uid gid : ℕ) (export path : List ℕ) (out out' : SinkAt) → Are
 get_bytes uid gid export path out out' words e p s s' text (inl (file, (mid, (finds, (done, ((reads, counts), silent)))))) =
     let one = finds_bytes uid gid export path words e p s mid (Ok file) finds in
     both_calls (tells_finds uid gid export path s mid (Ok file) finds).made
-    (read_exchanges uid gid file mid.bytes s'.bytes mid.requester s'.requester out.taken out'.taken done reads).made one.0
-    (λ all. read_calls uid gid file words (one.1 all file refl) mid.bytes s'.bytes mid.requester s'.requester out.taken out'.taken done reads)
+    (read_exchanges uid gid file mid s' out.taken out'.taken done reads).made one.0
+    (λ all. read_calls uid gid file words (one.1 all file refl) mid s' out.taken out'.taken done reads)
 get_bytes uid gid export path out out' words e p s s' text (inr (end, (finds, same))) = (finds_bytes uid gid export path words e p s s' (Err end) finds).0
 
 all_input : (known : List ℕ) (after : Option (List ℕ)) (handed rest : List ℕ) → IsBytes known → Consumes (Some known) after handed → IfSome after (λ left. rest ≡ left) → IsBytes (handed ++ rest)
@@ -133,9 +133,9 @@ pub put_calls : (uid gid : ℕ) (export path : List ℕ) (input input' : SourceA
 put_calls uid gid export path input input' words e p s s' text place mid finds (done, ((writes, counts), silent)) input_is =
     let one = parents_bytes uid gid export path words e p s mid (Ok place) finds in
     both_calls (tells_finds_parent uid gid export path s mid (Ok place) finds).made
-    (write_exchanges uid gid place.0 place.1 mid.bytes s'.bytes mid.requester s'.requester input.left input.given input'.left input'.given done writes).made one.0
+    (write_exchanges uid gid place.0 place.1 mid s' input.left input.given input'.left input'.given done writes).made one.0
     (λ all. let pair = one.1 all place refl in
-    write_calls uid gid place.0 place.1 writes.handed writes.rest words pair.0 pair.1 input_is mid.bytes s'.bytes mid.requester s'.requester done writes.calls)
+    write_calls uid gid place.0 place.1 writes.handed writes.rest words pair.0 pair.1 input_is mid s' done writes.calls)
 
 put_bytes : (uid gid : ℕ) (export path : List ℕ) (input input' : SourceAt) → AreWords uid gid → IsBytes export → IsBytes path → (known : List ℕ) → input.left ≡ Some known → IsBytes known → (s s' : SessionAt)
     (text : Result (List ℕ) ClientEnd) (is : Puts uid gid export path input input' s s' text) → CallsAreBytes (tells_put uid gid export path input input' s s' text is).made

@@ -101,20 +101,20 @@ has_make_symlink uid gid export path target =
 
 -- a part that ends before the bytes of a file move
 does_err : {A B : Type 0} (end : ClientEnd) (result : Result B ClientEnd) (s s' : SessionAt) (exchanges : Exchanges) → result ≡ Err end
-    → HasDone {A = A} (Err end) s.bytes s'.bytes s.requester s'.requester exchanges → HasDone result s.bytes s'.bytes s.requester s'.requester exchanges
+    → HasDone {A = A} (Err end) s s' exchanges → HasDone result s s' exchanges
 does_err {A} {B} end result s s' exchanges same does =
-    does_as {A = A} {B = B} (Err end) result s.bytes s'.bytes s.requester s'.requester exchanges (λ e is. same ∙ ap (λ (x : ClientEnd). Err x) (ap (end_in {A = A}) is)) does
+    does_as {A = A} {B = B} (Err end) result s s' exchanges (λ e is. same ∙ ap (λ (x : ClientEnd). Err x) (ap (end_in {A = A}) is)) does
 
 has_get : (uid gid : ℕ) (export path : List ℕ) (out out' : SinkAt) → Has (Gets uid gid export path out out') (tells_get uid gid export path out out')
 has_get uid gid export path out out' s s' text (inl (file, (mid, (finds, reads)))) =
-    does_both {A = List ℕ} file text s.bytes mid.bytes s'.bytes s.requester mid.requester s'.requester (tells_finds uid gid export path s mid (Ok file) finds)
+    does_both {A = List ℕ} file text s mid s' (tells_finds uid gid export path s mid (Ok file) finds)
     (tells_reads_out uid gid file out out' mid s' text reads) (has_finds uid gid export path s mid (Ok file) finds) (has_reads_out uid gid file out out' mid s' text reads)
 has_get uid gid export path out out' s s' text (inr (end, (finds, (same, kept)))) =
     does_err {A = List ℕ} end text s s' (tells_finds uid gid export path s s' (Err end) finds) same (has_finds uid gid export path s s' (Err end) finds)
 
 has_put : (uid gid : ℕ) (export path : List ℕ) (input input' : SourceAt) → Has (Puts uid gid export path input input') (tells_put uid gid export path input input')
 has_put uid gid export path input input' s s' text (inl (place, (mid, (finds, writes)))) =
-    does_both {A = List ℕ × List ℕ} place text s.bytes mid.bytes s'.bytes s.requester mid.requester s'.requester (tells_finds_parent uid gid export path s mid (Ok place) finds)
+    does_both {A = List ℕ × List ℕ} place text s mid s' (tells_finds_parent uid gid export path s mid (Ok place) finds)
     (tells_writes_in uid gid place.0 place.1 input input' mid s' text writes) (has_finds_parent uid gid export path s mid (Ok place) finds)
     (has_writes_in uid gid place.0 place.1 input input' mid s' text writes)
 has_put uid gid export path input input' s s' text (inr (end, (finds, (same, kept)))) =
@@ -187,6 +187,6 @@ commands_have_a_run_lem c before after input input' out out' result (NotOpened e
 commands_have_a_run_lem c before after input input' out out' result (Opened dialed s s' opens prints closes) opened link fine xid stag wished =
     let exchanges = tells_text c.uid c.gid c.export c.action input input' out prints.written s s' prints.text prints.made in
     let has = has_text_of c.uid c.gid c.export c.action input input' out prints.written s s' prints.text prints.made in
-    let does = does_as {A = List ℕ} {B = Unit {0}} prints.text result s.bytes s'.bytes s.requester s'.requester exchanges
+    let does = does_as {A = List ℕ} {B = Unit {0}} prints.text result s s' exchanges
     (λ end is. printed_end prints.text result prints.written out' end prints.prints is) has in
     is_run opened link s s' c.addr (terms_of c) before dialed after result exchanges wished.1.1 (ap (λ (t : SideTerms). t.number) wished.1.0) opens closes (does opened link [] fine (sessions_begin_lem c.addr (terms_of c) before dialed s opened link opens xid stag wished))

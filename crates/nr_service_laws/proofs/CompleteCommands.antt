@@ -100,7 +100,7 @@ module _ (I O : Type 0) where
 -- ---- The end of a command
 
 has_cause : (result : Result (Unit {0}) ClientEnd) (s s' : SessionAt) (input input' : SourceAt) (out out' : SinkAt)
-    → GivenIs Any (OwnEnd (Rises input.faults input'.faults) (Rises out.faults out'.faults)) result s'.bytes s'.requester → CountsFaults s s' result
+    → GivenIs Any (OwnEnd (Rises input.faults input'.faults) (Rises out.faults out'.faults)) result s' → CountsFaults s s' result
     → ((end : End) → result ≡ Err (client.Link (calls.Ended end)) → end ≡ ends.Memory) → ResultHasCause result s s' input input' out out'
 has_cause (Ok done) s s' input input' out out' is counts memory = tt
 has_cause (Err client.DialFault) s s' input input' out out' is counts memory = is

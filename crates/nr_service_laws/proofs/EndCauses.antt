@@ -8,7 +8,6 @@ use Rattle.nr_client.specs.declared.call_end.CallEnd.{CallEnd}
 use Rattle.nr_client.specs.declared.call_end.CallEnd.TheVariants as calls
 use Rattle.nr_client.specs.declared.client_end.ClientEnd.{ClientEnd}
 use Rattle.nr_client.specs.declared.client_end.ClientEnd.TheVariants as client
-use Rattle.nr_client.specs.Transfers.{LinkBytes}
 use Rattle.nr_commands.specs.Running.Runs.{NotOpened, Opened}
 use Rattle.nr_service_laws.specs.EndCauses.{CauseAt, EndsHaveCauses, ServedCommandsEndForMemory}
 use Rattle.nr_service_laws.specs.Exchanges.{tells_text}
@@ -16,17 +15,18 @@ use Rattle.nr_service_laws.proofs.AnyOutcomes.{PeerEnd, given_by_peer}
 use Rattle.nr_service_laws.proofs.Judged.{Any}
 use Rattle.nr_service_laws.proofs.JudgedParts.{GivenIs}
 use Rattle.nr_service_laws.proofs.ServedLaws.{served_not_ended_lem}
+use Rattle.nr_client.specs.Views.{LinkView}
 
 -- ---- The causes
 
-cause_of : (F : ClientEnd → Type 0) (result : Result (Unit {0}) ClientEnd) (b : LinkBytes) (h : RequesterSide) (end : CallEnd) → result ≡ Err (client.Link end) → GivenIs Any F result b h → CauseAt end b h
-cause_of F result b h end same is = subst (λ (r : Result (Unit {0}) ClientEnd). GivenIs Any F r b h) same is
+cause_of : (F : ClientEnd → Type 0) (result : Result (Unit {0}) ClientEnd) (b : LinkView) (end : CallEnd) → result ≡ Err (client.Link end) → GivenIs Any F result b → CauseAt end b
+cause_of F result b end same is = subst (λ (r : Result (Unit {0}) ClientEnd). GivenIs Any F r b) same is
 
 pub ends_have_causes_lem : EndsHaveCauses
 ends_have_causes_lem c before after input input' out out' result (NotOpened end is fails same_input same_out) = tt
 ends_have_causes_lem c before after input input' out out' result (Opened dialed s s' opens prints closes) = λ end is.
     cause_of (PeerEnd c input (tells_text c.uid c.gid c.export c.action input input' out prints.written s s' prints.text prints.made).made (Rises input.faults input'.faults) (Rises out.faults out'.faults)) result
-    s'.bytes s'.requester end is (given_by_peer c before dialed s s' input input' out out' result opens prints)
+    s' end is (given_by_peer c before dialed s s' input input' out out' result opens prints)
 
 -- ---- On a link that stays open
 

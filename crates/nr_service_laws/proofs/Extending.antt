@@ -15,12 +15,12 @@ use Rattle.nr_reduce.specs.declared.mark.Mark.{Mark}
 use Rattle.nr_reduce.specs.declared.mark.Mark.TheVariants as marks
 use Rattle.nr_reduce.specs.History.{bytes_received, bytes_sent, fed_at, written_at}
 use Rattle.nr_reduce.specs.Opening.{IsOpened}
-use Rattle.nr_requester.specs.RequesterState.{RequesterSide}
 use Rattle.nr_client.specs.declared.call_end.CallEnd.TheVariants as calls
 use Rattle.nr_client.specs.declared.client_end.ClientEnd.{ClientEnd}
 use Rattle.nr_client.specs.declared.client_end.ClientEnd.TheVariants as client
 use Rattle.nr_client.specs.Steps.{IsLive, WritesFirst}
 use Rattle.nr_client.specs.Transfers.{IsTransfer, LinkBytes, Moves}
+use Rattle.nr_client.specs.Views.{LinkView}
 use Rattle.nr_client.proofs.Turns.{cut_after, first_both, whole_both}
 use Rattle.nr_service_laws.specs.ClientMarks.{AreMarksOf, IsOwn, IsWholeFor, IsWrittenAt, LacksOutcome, StandsAt, exchange_marks, moves_bytes, without_bytes}
 use Rattle.nr_service_laws.specs.SessionMarks.{Does, Extends, HasDone, LetsGoOn}
@@ -119,25 +119,24 @@ extends_both opened link run b c d ahead made then more later one two =
 -- ---- Doing
 
 -- nothing was done
-pub does_none : {A : Type 0} (result : Result A ClientEnd) (b : LinkBytes) (h : RequesterSide) → HasDone result b b h h none
-does_none result b h opened link run fine live = record {
+pub does_none : {A : Type 0} (result : Result A ClientEnd) (v : LinkView) → HasDone result v v none
+does_none result v opened link run fine live = record {
   more = [];
   ahead = [];
-  extends = extends_none opened link run b;
-  stands = inl (subst (λ (all : List Mark). IsLive opened link h all) (sym (append-nil run)) live, refl);
+  extends = extends_none opened link run v.bytes;
+  stands = inl (subst (λ (all : List Mark). IsLive opened link v.requester all) (sym (append-nil run)) live, refl);
   written = tt;
   lacks = tt;
   whole = inr tt;
 }
 
-pub does_none_at : {A : Type 0} (result : Result A ClientEnd) (b c : LinkBytes) (h i : RequesterSide) → (c ≡ b) × (i ≡ h) → HasDone result b c h i none
-does_none_at result b c h i same =
-    subst (λ (x : LinkBytes). HasDone result b x h i none) (sym same.0) (subst (λ (y : RequesterSide). HasDone result b b h y none) (sym same.1) (does_none result b h))
+pub does_none_at : {A : Type 0} (result : Result A ClientEnd) (v w : LinkView) → w ≡ v → HasDone result v w none
+does_none_at result v w same = subst (λ (x : LinkView). HasDone result v x none) (sym same) (does_none result v)
 
 -- with another result: memory ran out for a frame only if it does for the other one
-pub does_as : {A B : Type 0} (result : Result A ClientEnd) (given : Result B ClientEnd) (b c : LinkBytes) (h i : RequesterSide) (exchanges : Exchanges)
-    → ((end : ClientEnd) → result ≡ Err end → given ≡ Err end) → HasDone result b c h i exchanges → HasDone given b c h i exchanges
-does_as result given b c h i exchanges same does opened link run fine live =
+pub does_as : {A B : Type 0} (result : Result A ClientEnd) (given : Result B ClientEnd) (v w : LinkView) (exchanges : Exchanges)
+    → ((end : ClientEnd) → result ≡ Err end → given ≡ Err end) → HasDone result v w exchanges → HasDone given v w exchanges
+does_as result given v w exchanges same does opened link run fine live =
     let done = does opened link run fine live in
     record {
       more = done.more;
@@ -153,7 +152,7 @@ does_as result given b c h i exchanges same does opened link run fine live =
     whole_as before more (inl failed) = inl (same (client.Link calls.LinkWrite) failed.0, failed.1)
     whole_as before more (inr whole) = inr whole
 
-    by : (ahead : List ℕ) (all : List Mark) → StandsAt result opened link i ahead all → StandsAt given opened link i ahead all
+    by : (ahead : List ℕ) (all : List Mark) → StandsAt result opened link w.requester ahead all → StandsAt given opened link w.requester ahead all
     by ahead all (inl stands) = inl stands
     by ahead all (inr (is, out)) = inr (same (client.Link (calls.Ended ends.Memory)) is, out)
 
@@ -163,33 +162,33 @@ whole_more given result opened link run more later on (inl failed) second = absu
 whole_more given result opened link run more later on (inr first) (inl failed) = inl (failed.0, cut_after opened link run more later first failed.1)
 whole_more given result opened link run more later on (inr first) (inr second) = inr (whole_both opened link run more later first second)
 
-does_more : {A B : Type 0} (given : Result A ClientEnd) (result : Result B ClientEnd) (opened : LinkParameters) (link : ℕ) (run : List Mark) (b c d : LinkBytes) (i j : RequesterSide) (exchanges later : Exchanges)
-    → LetsGoOn given → HasDone result c d i j later → IsOpened opened → (more : List Mark) (ahead : List ℕ) → Extends opened link run b c ahead exchanges.made more
-    → StandsAt given opened link i ahead (run ++ more) → IsWholeFor given opened link run more → Does result opened link run b d j (and_then exchanges later)
-does_more given result opened link run b c d i j exchanges later on does fine more ahead extends (inl (live, fed)) whole =
+does_more : {A B : Type 0} (given : Result A ClientEnd) (result : Result B ClientEnd) (opened : LinkParameters) (link : ℕ) (run : List Mark) (b : LinkBytes) (v w : LinkView) (exchanges later : Exchanges)
+    → LetsGoOn given → HasDone result v w later → IsOpened opened → (more : List Mark) (ahead : List ℕ) → Extends opened link run b v.bytes ahead exchanges.made more
+    → StandsAt given opened link v.requester ahead (run ++ more) → IsWholeFor given opened link run more → Does result opened link run b w.bytes w.requester (and_then exchanges later)
+does_more given result opened link run b v w exchanges later on does fine more ahead extends (inl (live, fed)) whole =
     let done = does opened link (run ++ more) fine live in
-    let before : Extends opened link run b c [] exchanges.made more = subst (λ (l : List ℕ). Extends opened link run b c l exchanges.made more) fed extends in
+    let before : Extends opened link run b v.bytes [] exchanges.made more = subst (λ (l : List ℕ). Extends opened link run b v.bytes l exchanges.made more) fed extends in
     record {
       more = more ++ done.more;
       ahead = done.ahead;
-      extends = extends_both opened link run b c d done.ahead exchanges.made later.made more done.more before done.extends;
-      stands = subst (λ (all : List Mark). StandsAt result opened link j done.ahead all) (append_assoc run more done.more) done.stands;
+      extends = extends_both opened link run b v.bytes w.bytes done.ahead exchanges.made later.made more done.more before done.extends;
+      stands = subst (λ (all : List Mark). StandsAt result opened link w.requester done.ahead all) (append_assoc run more done.more) done.stands;
       written = subst (λ (all : List Mark). IsWrittenAt later.unanswered opened link all) (append_assoc run more done.more) done.written;
       lacks = subst (λ (all : List Mark). LacksOutcome later.lost opened link all) (append_assoc run more done.more) done.lacks;
       whole = whole_more given result opened link run more done.more on whole done.whole;
     }
-does_more given result opened link run b c d i j exchanges later on does fine more ahead extends (inr (is, out)) whole = absurd (on.fed is)
+does_more given result opened link run b v w exchanges later on does fine more ahead extends (inr (is, out)) whole = absurd (on.fed is)
 
 -- one thing was done, and then another
-pub does_after : {A B : Type 0} (given : Result A ClientEnd) (result : Result B ClientEnd) (b c d : LinkBytes) (h i j : RequesterSide) (exchanges later : Exchanges)
-    → LetsGoOn given → HasDone given b c h i exchanges → HasDone result c d i j later → HasDone result b d h j (and_then exchanges later)
-does_after given result b c d h i j exchanges later on one two opened link run fine live =
+pub does_after : {A B : Type 0} (given : Result A ClientEnd) (result : Result B ClientEnd) (u v w : LinkView) (exchanges later : Exchanges)
+    → LetsGoOn given → HasDone given u v exchanges → HasDone result v w later → HasDone result u w (and_then exchanges later)
+does_after given result u v w exchanges later on one two opened link run fine live =
     let done = one opened link run fine live in
-    does_more given result opened link run b c d i j exchanges later on two fine done.more done.ahead done.extends done.stands done.whole
+    does_more given result opened link run u.bytes v w exchanges later on two fine done.more done.ahead done.extends done.stands done.whole
 
 pub has_value : {A : Type 0} (value : A) → LetsGoOn {A = A} (Ok value)
 has_value value = record { written = λ e. absurd cc; fed = λ e. absurd cc }
 
-pub does_both : {A B : Type 0} (value : A) (result : Result B ClientEnd) (b c d : LinkBytes) (h i j : RequesterSide) (exchanges later : Exchanges)
-    → HasDone {A = A} (Ok value) b c h i exchanges → HasDone result c d i j later → HasDone result b d h j (and_then exchanges later)
-does_both {A} value result b c d h i j exchanges later one two = does_after {A = A} (Ok value) result b c d h i j exchanges later (has_value value) one two
+pub does_both : {A B : Type 0} (value : A) (result : Result B ClientEnd) (u v w : LinkView) (exchanges later : Exchanges)
+    → HasDone {A = A} (Ok value) u v exchanges → HasDone result v w later → HasDone result u w (and_then exchanges later)
+does_both {A} value result u v w exchanges later one two = does_after {A = A} (Ok value) result u v w exchanges later (has_value value) one two

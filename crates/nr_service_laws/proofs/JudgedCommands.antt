@@ -111,8 +111,8 @@ module _ (R : Call → Outcome → Type 0) (V : List ℕ → Type 0) (F : Client
       (has_symlinks uid gid place.0 place.1 target) (symlinks_is R V F uid gid judge place.0 place.1 target long) (λ made is. text_is R F []))
 
   -- a part that ends before the bytes of a file move
-  ends_before : {A : Type 0} (W : A → Type 0) (s' : SessionAt) (end : ClientEnd) (result : Result (List ℕ) ClientEnd) → result ≡ Err end → GivenIs W F (Err end) s'.bytes s'.requester → GivenIs Any F result s'.bytes s'.requester
-  ends_before W s' end result same is = subst (λ (r : Result (List ℕ) ClientEnd). GivenIs Any F r s'.bytes s'.requester) (sym same) is
+  ends_before : {A : Type 0} (W : A → Type 0) (s' : SessionAt) (end : ClientEnd) (result : Result (List ℕ) ClientEnd) → result ≡ Err end → GivenIs W F (Err end) s' → GivenIs Any F result s'
+  ends_before W s' end result same is = subst (λ (r : Result (List ℕ) ClientEnd). GivenIs Any F r s') (sym same) is
 
   get_is : (export path : List ℕ) (out out' : SinkAt) → LongExport export → BadPath path → (Rises out.faults out'.faults → F client.OutputFault) → PartIs R Any F (Gets uid gid export path out out') (tells_get uid gid export path out out')
   get_is export path out out' over bad fault s s' text (inl (file, (mid, (finds, reads)))) before opened link run fine live are =
@@ -149,7 +149,7 @@ module _ (R : Call → Outcome → Type 0) (V : List ℕ → Type 0) (F : Client
 
 -- ---- Up to what is printed
 
-ok_printed : (F : ClientEnd → Type 0) (text : List ℕ) (result : Result (Unit {0}) ClientEnd) (out out' : SinkAt) (s' : SessionAt) → (Rises out.faults out'.faults → F client.OutputFault) → IsPrinted (Ok text) result out out' → GivenIs Any F result s'.bytes s'.requester
+ok_printed : (F : ClientEnd → Type 0) (text : List ℕ) (result : Result (Unit {0}) ClientEnd) (out out' : SinkAt) (s' : SessionAt) → (Rises out.faults out'.faults → F client.OutputFault) → IsPrinted (Ok text) result out out' → GivenIs Any F result s'
 ok_printed F text (Ok done) out out' s' fault prints = tt
 ok_printed F text (Err client.OutputFault) out out' s' fault prints = fault prints.rose
 ok_printed F text (Err client.DialFault) out out' s' fault prints = absurd prints
@@ -190,16 +190,16 @@ output_kept uid gid export (actions.Get path) input input' out out' s s' text is
 pub opened_is : (R : Call → Outcome → Type 0) (V : List ℕ → Type 0) (F : ClientEnd → Type 0) (c : Client Text) (before dialed : DialerAt) (s s' : SessionAt) (input input' : SourceAt) (out out' : SinkAt) (result : Result (Unit {0}) ClientEnd)
     (opens : Opens c.addr (terms_of c) before dialed s) (prints : PrintsAll c s s' input input' out out' result) (opened : LinkParameters) (link : ℕ) → Judgement R V F c.uid c.gid → WordsGive F c.export c.action input → (Rises input.faults input'.faults → F client.InputFault)
     → (Rises out.faults out'.faults → F client.OutputFault) → IsOpened opened → opened.first_xid ≡ 1 → opened.first_stag ≡ 1 → ClientOpened opened session_credits (terms_of c)
-    → AreJudged R [] (tells_text c.uid c.gid c.export c.action input input' out prints.written s s' prints.text prints.made).made → GivenIs Any F result s'.bytes s'.requester
+    → AreJudged R [] (tells_text c.uid c.gid c.export c.action input input' out prints.written s s' prints.text prints.made).made → GivenIs Any F result s'
 opened_is R V F c before dialed s s' input input' out out' result opens prints opened link judge give input_fault output_fault fine xid stag wished are = by prints.text result prints.made prints.prints are
   where
     by : (text : Result (List ℕ) ClientEnd) (given : Result (Unit {0}) ClientEnd) (made : text_of c.uid c.gid c.export c.action input input' out prints.written s s' text) → IsPrinted text given prints.written out'
-        → AreJudged R [] (tells_text c.uid c.gid c.export c.action input input' out prints.written s s' text made).made → GivenIs Any F given s'.bytes s'.requester
+        → AreJudged R [] (tells_text c.uid c.gid c.export c.action input input' out prints.written s s' text made).made → GivenIs Any F given s'
     by (Ok text) given made printed judged =
         ok_printed F text given prints.written out' s'
         (λ rose. output_fault (subst (λ (n : ℕ). Rises n out'.faults) (output_kept c.uid c.gid c.export c.action input input' out prints.written s s' text made) rose)) printed
     by (Err why) (Ok done) made printed judged = absurd printed
     by (Err why) (Err end) made (same, kept) judged =
-        subst (λ (e : ClientEnd). EndsAs F e s'.bytes s'.requester) (sym same)
+        subst (λ (e : ClientEnd). EndsAs F e s') (sym same)
         (command_is R V F c.uid c.gid judge c.export c.action input input' out prints.written give input_fault (λ rose. output_fault (subst (λ (o : SinkAt). Rises out.faults o.faults) (sym kept) rose)) s s' (Err why) made [] opened
         link [] fine (sessions_begin_lem c.addr (terms_of c) before dialed s opened link opens xid stag wished) judged)

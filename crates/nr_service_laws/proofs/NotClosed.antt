@@ -21,7 +21,7 @@ use Rattle.nr_client.specs.declared.call_end.CallEnd.TheVariants as calls
 use Rattle.nr_client.specs.declared.client_end.ClientEnd.{ClientEnd}
 use Rattle.nr_client.specs.declared.client_end.ClientEnd.TheVariants as client
 use Rattle.nr_client.specs.Steps.{IsLive}
-use Rattle.nr_client.specs.Transfers.{LinkBytes}
+use Rattle.nr_client.specs.Views.{LinkView}
 use Rattle.nr_client.proofs.Turns.{written_now}
 use Rattle.nr_commands.specs.Running.Runs.{NotOpened, Opened}
 use Rattle.nr_service_laws.specs.ClientMarks.{IsOwn, StandsAt}
@@ -59,10 +59,10 @@ record WaitsAt (opened : LinkParameters) (link : ℕ) (run : List Mark) : Type 0
   written : HasWritten opened link Initiator run
   waiting : 0 < calls_outstanding opened link run
 
-waits_at : (opened : LinkParameters) (link : ℕ) (run : List Mark) (b : LinkBytes) (h : RequesterSide) → IsLive opened link h run → CauseAt calls.Closed b h → WaitsAt opened link run
-waits_at opened link run b h live cause =
+waits_at : (opened : LinkParameters) (link : ℕ) (run : List Mark) (b : LinkView) → IsLive opened link b.requester run → CauseAt calls.Closed b → WaitsAt opened link run
+waits_at opened link run b live cause =
     let (ended, (at_end, (few, (some, none)))) = cause in
-    record { written = written_now opened link run h none live; waiting = subst (λ (k : ℕ). 0 < k) (outstanding_as_client opened link h run live.stands) some }
+    record { written = written_now opened link run b.requester none live; waiting = subst (λ (k : ℕ). 0 < k) (outstanding_as_client opened link b.requester run live.stands) some }
 
 live_at : (result : Result (Unit {0}) ClientEnd) (opened : LinkParameters) (link : ℕ) (h : RequesterSide) (ahead : List ℕ) (run : List Mark) → result ≡ Err (client.Link calls.Closed)
     → StandsAt result opened link h ahead run → IsLive opened link h run
@@ -79,7 +79,7 @@ served_not_closed_lem opened link c before after input input' out out' result (O
     let fresh = no_old_call opened link both served.typed laws.0 ran.unnumbered in
     let live = live_at result opened link s'.requester ran.ahead ran.run closed ran.stands in
     let cause = ends_have_causes_lem c before after input input' out out' result (Opened dialed s s' opens prints closes) calls.Closed closed in
-    let waits = waits_at opened link ran.run s'.bytes s'.requester live cause in
+    let waits = waits_at opened link ran.run s' live cause in
     by closed (λ kept. none_at_all (calls_outstanding opened link ran.run) (none_outstanding reply_to adds opened link ran.run both fine ran.first_link ran.own served kept fresh owes waits.written) waits.waiting) laws.1
   where
     by : {K : Type 0} → result ≡ Err (client.Link calls.Closed) → (K → ⊥) → (result ≡ Err (client.Link calls.LinkWrite)) ⊎ K → ⊥

@@ -22,9 +22,10 @@ use Rattle.nr_requester.specs.RequesterState.{RequesterSide}
 use Rattle.nr_client.specs.declared.call_end.CallEnd.{CallEnd}
 use Rattle.nr_client.specs.declared.client_end.ClientEnd.{ClientEnd}
 use Rattle.nr_client.specs.declared.client_end.ClientEnd.TheVariants as client
-use Rattle.nr_client.specs.Calls.{Answers, Completes, Forgets, ForgetsCall, ForgetsCalls, GivesUp, NoneCame, RefusesToSubmit, Submits}
+use Rattle.nr_client.specs.Calls.{AddsForget, Answers, Completes, Forgets, ForgetsCalls, GivesUp, NoneCame, RefusesToSubmit, Submits}
 use Rattle.nr_client.specs.Steps.{HasWrittenAt, IsCutShort, IsLeft, IsLive, WholeIfWrote, WritesFirst, WritesInFull, WritesInFullTo, WritesNothing, WrittenIfFed}
 use Rattle.nr_client.specs.Transfers.{IsTransfer, LinkBytes, Moves}
+use Rattle.nr_client.specs.Views.{LinkView}
 use Rattle.nr_client.proofs.Turns.{cut_after, first_both, whole_both}
 use Rattle.nr_service_laws.specs.ClientMarks.{AreMarksOf, IsOwn, IsWholeFor, IsWrittenAt, LacksOutcome, StandsAt, moves_bytes, without_bytes}
 use Rattle.nr_service_laws.specs.Exchanges.{Exchange, Exchanges, lost_by, refused_by, given_up_exchanges, giving_up, one}
@@ -224,53 +225,53 @@ stands_left end opened link h ahead run (inr (is, out)) = inr (ap (λ (e : CallE
 -- ---- Calls
 
 -- a call that was answered
-pub does_answers : {A : Type 0} (value : A) (call : Call) (outcome : Outcome) (b c : LinkBytes) (h i : RequesterSide) → Answers b c h i call outcome
-    → HasDone {A = A} (Ok value) b c h i (one (Answered call outcome))
-does_answers value call outcome b c h i answers opened link run fine live =
+pub does_answers : {A : Type 0} (value : A) (call : Call) (outcome : Outcome) (v w : LinkView) → Answers v w call outcome
+    → HasDone {A = A} (Ok value) v w (one (Answered call outcome))
+does_answers value call outcome v w answers opened link run fine live =
     let is = answers.1 opened link run fine live in
     let s = submit_mark link call is.xid in
     let l = marks.Done link is.xid outcome in
     record {
       more = is.waits ++ s ∷ (is.moved ++ l ∷ []);
       ahead = [];
-      extends = extends_call opened link run b c [] (Answered call outcome ∷ []) is.waits is.moved s l is.moves.bytes is.moves.before is.moves.written
+      extends = extends_call opened link run v.bytes w.bytes [] (Answered call outcome ∷ []) is.waits is.moved s l is.moves.bytes is.moves.before is.moves.written
           (still_submit link call is.xid) (still_done link is.xid outcome) (is.xid, [], (refl, refl));
-      stands = inl (subst (λ (all : List Mark). IsLive opened link i all) (all_marks run is.waits is.moved s l) is.live, refl);
+      stands = inl (subst (λ (all : List Mark). IsLive opened link w.requester all) (all_marks run is.waits is.moved s l) is.live, refl);
       written = tt;
       lacks = tt;
       whole = inr (whole_around opened link run is.waits is.moved s l (still_submit link call is.xid) (still_done link is.xid outcome) is.moves.whole_before is.whole);
     }
 
 -- a call that was not submitted
-pub does_refuses : {A : Type 0} (call : Call) (end : CallEnd) (b c : LinkBytes) (h i : RequesterSide) → RefusesToSubmit b c h i call end
-    → HasDone {A = A} (Err (client.Link end)) b c h i (refused_by end)
-does_refuses {A} call end b c h i refuses opened link run fine live =
+pub does_refuses : {A : Type 0} (call : Call) (end : CallEnd) (v w : LinkView) → RefusesToSubmit v w call end
+    → HasDone {A = A} (Err (client.Link end)) v w (refused_by end)
+does_refuses {A} call end v w refuses opened link run fine live =
     let is = refuses.0 opened link run fine live in
     record {
       more = is.moved;
       ahead = is.ahead;
-      extends = extends_moved opened link run b c is.ahead is.moved is.bytes is.written;
-      stands = stands_left {A = A} end opened link i is.ahead (run ++ is.moved) is.left;
+      extends = extends_moved opened link run v.bytes w.bytes is.ahead is.moved is.bytes is.written;
+      stands = stands_left {A = A} end opened link w.requester is.ahead (run ++ is.moved) is.left;
       written = is.all;
       lacks = tt;
       whole = whole_for {A = A} end opened link run is.moved is.whole;
     }
 
 -- a call that has no answer
-pub does_gives_up : {A : Type 0} (call : Call) (end : CallEnd) (b c : LinkBytes) (h i : RequesterSide) (gives_up : GivesUp b c h i call end)
-    → HasDone {A = A} (Err (client.Link end)) b c h i (given_up_exchanges b c h i call end gives_up)
-does_gives_up {A} call end b c h i (inl refuses) opened link run fine live = does_refuses {A = A} call end b c h i refuses opened link run fine live
-does_gives_up {A} call end b c h i (inr (cause, gone)) opened link run fine live =
+pub does_gives_up : {A : Type 0} (call : Call) (end : CallEnd) (v w : LinkView) (gives_up : GivesUp v w call end)
+    → HasDone {A = A} (Err (client.Link end)) v w (given_up_exchanges v w call end gives_up)
+does_gives_up {A} call end v w (inl refuses) opened link run fine live = does_refuses {A = A} call end v w refuses opened link run fine live
+does_gives_up {A} call end v w (inr (cause, gone)) opened link run fine live =
     let is = gone opened link run fine live in
     let s = submit_mark link call is.xid in
     let l = marks.Forget link is.xid in
     record {
       more = is.waits ++ s ∷ (is.moved ++ l ∷ []);
       ahead = is.ahead;
-      extends = extends_call opened link run b c is.ahead (Forgotten call ∷ []) is.waits is.moved s l is.moves.bytes is.moves.before is.moves.written
+      extends = extends_call opened link run v.bytes w.bytes is.ahead (Forgotten call ∷ []) is.waits is.moved s l is.moves.bytes is.moves.before is.moves.written
           (still_submit link call is.xid) (still_forget link is.xid) (is.xid, [], (refl, refl));
-      stands = stands_left {A = A} end opened link i is.ahead (run ++ (is.waits ++ s ∷ (is.moved ++ l ∷ [])))
-          (subst (λ (all : List Mark). IsLeft end opened link i is.ahead all) (all_marks run is.waits is.moved s l) is.left);
+      stands = stands_left {A = A} end opened link w.requester is.ahead (run ++ (is.waits ++ s ∷ (is.moved ++ l ∷ [])))
+          (subst (λ (all : List Mark). IsLeft end opened link w.requester is.ahead all) (all_marks run is.waits is.moved s l) is.left);
       written = subst (λ (all : List Mark). HasWrittenAt end opened link all) (all_marks run is.waits is.moved s l)
           (written_at_forget end opened link is.xid (((run ++ is.waits) ++ s ∷ []) ++ is.moved) is.all);
       lacks = subst (λ (all : List Mark). LacksOutcome (Some end) opened link all) (all_marks run is.waits is.moved s l)
@@ -280,50 +281,50 @@ does_gives_up {A} call end b c h i (inr (cause, gone)) opened link run fine live
 
 -- ---- READs of a file
 
-pub does_submits : {A : Type 0} (value : A) (call : Call) (xid : ℕ) (b c : LinkBytes) (h i : RequesterSide) → Submits b c h i call xid
-    → HasDone {A = A} (Ok value) b c h i (one (Submitted xid call))
-does_submits value call xid b c h i submits opened link run fine live =
+pub does_submits : {A : Type 0} (value : A) (call : Call) (xid : ℕ) (v w : LinkView) → Submits v w call xid
+    → HasDone {A = A} (Ok value) v w (one (Submitted xid call))
+does_submits value call xid v w submits opened link run fine live =
     let is = submits.1 opened link run fine live in
     let s = submit_mark link call xid in
     record {
       more = is.waits ++ s ∷ [];
       ahead = [];
-      extends = extends_still opened link run b c [] [] (Submitted xid call ∷ []) is.waits s (extends_moved opened link run b c [] is.waits is.bytes is.before) (still_submit link call xid)
+      extends = extends_still opened link run v.bytes w.bytes [] [] (Submitted xid call ∷ []) is.waits s (extends_moved opened link run v.bytes w.bytes [] is.waits is.bytes is.before) (still_submit link call xid)
           (xid, [], (refl, refl));
-      stands = inl (subst (λ (all : List Mark). IsLive opened link i all) (append_assoc run is.waits (s ∷ [])) is.live, refl);
+      stands = inl (subst (λ (all : List Mark). IsLive opened link w.requester all) (append_assoc run is.waits (s ∷ [])) is.live, refl);
       written = tt;
       lacks = tt;
       whole = inr (whole_still opened link run is.waits s (still_submit link call xid) is.whole);
     }
 
-pub does_completes : {A : Type 0} (value : A) (xid : ℕ) (outcome : Outcome) (b c : LinkBytes) (h i : RequesterSide) → Completes xid outcome b c h i
-    → HasDone {A = A} (Ok value) b c h i (one (HandedOver xid outcome))
-does_completes value xid outcome b c h i completes opened link run fine live =
+pub does_completes : {A : Type 0} (value : A) (xid : ℕ) (outcome : Outcome) (v w : LinkView) → Completes xid outcome v w
+    → HasDone {A = A} (Ok value) v w (one (HandedOver xid outcome))
+does_completes value xid outcome v w completes opened link run fine live =
     let is = completes opened link run fine live in
     let l = marks.Done link xid outcome in
     record {
       more = is.0 ++ l ∷ [];
       ahead = [];
-      extends = extends_still opened link run b c [] [] (HandedOver xid outcome ∷ []) is.0 l (extends_moved opened link run b c [] is.0 is.1.0 is.1.1.0) (still_done link xid outcome)
+      extends = extends_still opened link run v.bytes w.bytes [] [] (HandedOver xid outcome ∷ []) is.0 l (extends_moved opened link run v.bytes w.bytes [] is.0 is.1.0 is.1.1.0) (still_done link xid outcome)
           (xid, [], (refl, refl));
-      stands = inl (subst (λ (all : List Mark). IsLive opened link i all) (append_assoc run is.0 (l ∷ [])) is.1.1.1.1, refl);
+      stands = inl (subst (λ (all : List Mark). IsLive opened link w.requester all) (append_assoc run is.0 (l ∷ [])) is.1.1.1.1, refl);
       written = tt;
       lacks = tt;
       whole = inr (whole_still opened link run is.0 l (still_done link xid outcome) is.1.1.1.0);
     }
 
-pub does_forgets : {A : Type 0} (xid : ℕ) (end : CallEnd) (b c : LinkBytes) (h i : RequesterSide) → Forgets xid end b c h i
-    → HasDone {A = A} (Err (client.Link end)) b c h i (lost_by (GivenUp xid) end)
-does_forgets {A} xid end b c h i forgets opened link run fine live =
+pub does_forgets : {A : Type 0} (xid : ℕ) (end : CallEnd) (v w : LinkView) → Forgets xid end v w
+    → HasDone {A = A} (Err (client.Link end)) v w (lost_by (GivenUp xid) end)
+does_forgets {A} xid end v w forgets opened link run fine live =
     let is = forgets opened link run fine live in
     let l = marks.Forget link xid in
     record {
       more = is.0 ++ l ∷ [];
       ahead = is.1;
-      extends = extends_still opened link run b c is.1 [] (GivenUp xid ∷ []) is.0 l (extends_moved opened link run b c is.1 is.0 is.2.0 is.2.1.0) (still_forget link xid)
+      extends = extends_still opened link run v.bytes w.bytes is.1 [] (GivenUp xid ∷ []) is.0 l (extends_moved opened link run v.bytes w.bytes is.1 is.0 is.2.0 is.2.1.0) (still_forget link xid)
           (xid, [], (refl, refl));
-      stands = stands_left {A = A} end opened link i is.1 (run ++ (is.0 ++ l ∷ []))
-          (subst (λ (all : List Mark). IsLeft end opened link i is.1 all) (append_assoc run is.0 (l ∷ [])) is.2.1.1.1.1.1);
+      stands = stands_left {A = A} end opened link w.requester is.1 (run ++ (is.0 ++ l ∷ []))
+          (subst (λ (all : List Mark). IsLeft end opened link w.requester is.1 all) (append_assoc run is.0 (l ∷ [])) is.2.1.1.1.1.1);
       written = subst (λ (all : List Mark). HasWrittenAt end opened link all) (append_assoc run is.0 (l ∷ [])) (written_at_forget end opened link xid (run ++ is.0) is.2.1.1.1.0);
       lacks = subst (λ (all : List Mark). LacksOutcome (Some end) opened link all) (append_assoc run is.0 (l ∷ [])) (lacks_at end opened link xid (run ++ is.0) is.2.1.1.1.1.0);
       whole = whole_given_up {A = A} (Err (client.Link end)) opened link run is.0 l (still_forget link xid) (whole_for {A = A} end opened link run is.0 is.2.1.1.0);
@@ -331,12 +332,12 @@ does_forgets {A} xid end b c h i forgets opened link run fine live =
 
 -- the calls of these xids are forgotten in the end
 forgets_one : {A : Type 0} (result : Result A ClientEnd) (opened : LinkParameters) (link : ℕ) (h i : RequesterSide) (xid : ℕ) (ahead : List ℕ) (run : List Mark)
-    → ForgetsCall xid h i → StandsAt result opened link h ahead run → StandsAt result opened link i ahead (run ++ marks.Forget link xid ∷ [])
+    → AddsForget xid h i → StandsAt result opened link h ahead run → StandsAt result opened link i ahead (run ++ marks.Forget link xid ∷ [])
 forgets_one result opened link h i xid ahead run forgets (inl (live, fed)) = inl (forgets.0 opened link run live, fed)
 forgets_one result opened link h i xid ahead run forgets (inr (is, out)) = inr (is, forgets.1 opened link run out)
 
 one_more_given_up : {A : Type 0} (result : Result A ClientEnd) (opened : LinkParameters) (link : ℕ) (run : List Mark) (b c : LinkBytes) (h i : RequesterSide) (xid : ℕ) (made : List Exchange) (unanswered lost : Option CallEnd)
-    → ForgetsCall xid h i → Does result opened link run b c h (record { made = made; unanswered = unanswered; lost = lost })
+    → AddsForget xid h i → Does result opened link run b c h (record { made = made; unanswered = unanswered; lost = lost })
     → Does result opened link run b c i (record { made = made ++ GivenUp xid ∷ []; unanswered = unanswered; lost = lost })
 one_more_given_up result opened link run b c h i xid made unanswered lost forgets done =
     let l = marks.Forget link xid in
@@ -352,17 +353,20 @@ one_more_given_up result opened link run b c h i xid made unanswered lost forget
       whole = whole_given_up result opened link run done.more l (still_forget link xid) done.whole;
     }
 
-all_given_up : {A : Type 0} (result : Result A ClientEnd) (opened : LinkParameters) (link : ℕ) (run : List Mark) (b c : LinkBytes) (h i : RequesterSide) (xids : List ℕ) (made : List Exchange) (unanswered lost : Option CallEnd)
-    → ForgetsCalls xids h i → Does result opened link run b c h (record { made = made; unanswered = unanswered; lost = lost })
-    → Does result opened link run b c i (record { made = made ++ map GivenUp xids; unanswered = unanswered; lost = lost })
-all_given_up result opened link run b c h i [] made unanswered lost same done =
-    subst (λ (l : List Exchange). Does result opened link run b c i (record { made = l; unanswered = unanswered; lost = lost })) (sym (append-nil made))
-    (subst (λ (x : RequesterSide). Does result opened link run b c x (record { made = made; unanswered = unanswered; lost = lost })) (sym same) done)
-all_given_up result opened link run b c h i (xid ∷ xids) made unanswered lost (j, (forgets, rest)) done =
-    subst (λ (l : List Exchange). Does result opened link run b c i (record { made = l; unanswered = unanswered; lost = lost })) (append_assoc made (GivenUp xid ∷ []) (map GivenUp xids))
-    (all_given_up result opened link run b c j i xids (made ++ GivenUp xid ∷ []) unanswered lost rest (one_more_given_up result opened link run b c h j xid made unanswered lost forgets done))
+all_given_up : {A : Type 0} (result : Result A ClientEnd) (opened : LinkParameters) (link : ℕ) (run : List Mark) (b : LinkBytes) (v w : LinkView) (xids : List ℕ) (made : List Exchange) (unanswered lost : Option CallEnd)
+    → ForgetsCalls xids v w → Does result opened link run b v.bytes v.requester (record { made = made; unanswered = unanswered; lost = lost })
+    → Does result opened link run b w.bytes w.requester (record { made = made ++ map GivenUp xids; unanswered = unanswered; lost = lost })
+all_given_up result opened link run b v w [] made unanswered lost same done =
+    subst (λ (l : List Exchange). Does result opened link run b w.bytes w.requester (record { made = l; unanswered = unanswered; lost = lost })) (sym (append-nil made))
+    (subst (λ (x : LinkView). Does result opened link run b x.bytes x.requester (record { made = made; unanswered = unanswered; lost = lost })) (sym same) done)
+all_given_up result opened link run b v w (xid ∷ xids) made unanswered lost (mid, (forgets, rest)) done =
+    let given_up : List Exchange = made ++ GivenUp xid ∷ [] in
+    subst (λ (l : List Exchange). Does result opened link run b w.bytes w.requester (record { made = l; unanswered = unanswered; lost = lost })) (append_assoc made (GivenUp xid ∷ []) (map GivenUp xids))
+    (all_given_up result opened link run b mid w xids given_up unanswered lost rest
+    (subst (λ (x : LinkBytes). Does result opened link run b x mid.requester (record { made = given_up; unanswered = unanswered; lost = lost })) (sym forgets.1.0)
+    (one_more_given_up result opened link run b v.bytes v.requester mid.requester xid made unanswered lost forgets.0 done)))
 
-pub does_giving_up : {A : Type 0} (result : Result A ClientEnd) (b c : LinkBytes) (h i j : RequesterSide) (xids : List ℕ) (exchanges : Exchanges)
-    → HasDone result b c h i exchanges → ForgetsCalls xids i j → HasDone result b c h j (giving_up exchanges xids)
-does_giving_up result b c h i j xids exchanges does forgets opened link run fine live =
-    all_given_up result opened link run b c i j xids exchanges.made exchanges.unanswered exchanges.lost forgets (does opened link run fine live)
+pub does_giving_up : {A : Type 0} (result : Result A ClientEnd) (u v w : LinkView) (xids : List ℕ) (exchanges : Exchanges)
+    → HasDone result u v exchanges → ForgetsCalls xids v w → HasDone result u w (giving_up exchanges xids)
+does_giving_up result u v w xids exchanges does forgets opened link run fine live =
+    all_given_up result opened link run u.bytes v w xids exchanges.made exchanges.unanswered exchanges.lost forgets (does opened link run fine live)

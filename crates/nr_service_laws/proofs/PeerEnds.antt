@@ -17,7 +17,7 @@ use Rattle.nr_service_laws.proofs.JudgedParts.{EndsAs, GivenIs}
 use Rattle.nr_service_laws.proofs.ReplyCommands.{replies_exclude_ends_lem}
 
 says : (c : Client Text) (made : List Exchange) (s s' : SessionAt) (input input' : SourceAt) (out out' : SinkAt) (end : ClientEnd) → CountsFaults {A = Unit {0}} s s' (Err end)
-    → EndsAs (PeerEnd c input made (Rises input.faults input'.faults) (Rises out.faults out'.faults)) end s'.bytes s'.requester → EndSays c made s s' input input' out out' end
+    → EndsAs (PeerEnd c input made (Rises input.faults input'.faults) (Rises out.faults out'.faults)) end s' → EndSays c made s s' input input' out out' end
 says c made s s' input input' out out' client.DialFault counts given = given
 says c made s s' input input' out out' (client.Link (calls.Ended end)) counts given = given
 says c made s s' input input' out out' (client.Link calls.LinkRead) counts given = (counts.0, given)
@@ -45,5 +45,5 @@ ends_say_lem c before after input input' out out' result (Opened dialed s s' ope
     let made = (tells_text c.uid c.gid c.export c.action input input' out prints.written s s' prints.text prints.made).made in
     says c made s s' input input' out out' end
     (subst (λ (r : Result (Unit {0}) ClientEnd). CountsFaults s s' r) is (replies_exclude_ends_lem c before after input input' out out' result (Opened dialed s s' opens prints closes)).0)
-    (subst (λ (r : Result (Unit {0}) ClientEnd). GivenIs Any (PeerEnd c input made (Rises input.faults input'.faults) (Rises out.faults out'.faults)) r s'.bytes s'.requester) is
+    (subst (λ (r : Result (Unit {0}) ClientEnd). GivenIs Any (PeerEnd c input made (Rises input.faults input'.faults) (Rises out.faults out'.faults)) r s') is
     (given_by_peer c before dialed s s' input input' out out' result opens prints))

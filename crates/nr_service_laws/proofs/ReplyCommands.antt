@@ -6,12 +6,11 @@ use Rattle.nr_words.specs.Lines.{Text}
 use Rattle.nr_words.specs.declared.commands.Action.{Action}
 use Rattle.nr_words.specs.declared.commands.Action.TheVariants as actions
 use Rattle.nr_reduce.specs.declared.call.Outcome.{Outcome}
-use Rattle.nr_requester.specs.RequesterState.{RequesterSide}
-use Rattle.nr_client.specs.Transfers.{LinkBytes}
 use Rattle.nr_client.specs.declared.client_end.ClientEnd.{ClientEnd}
 use Rattle.nr_client.specs.declared.client_end.ClientEnd.TheVariants as client
 use Rattle.nr_client.specs.Listing.{list_next}
 use Rattle.nr_client.specs.Requests.{create_result, getattr_call, getattr_result, mkdir_call, readlink_call, readlink_result, remove_call, remove_result}
+use Rattle.nr_client.specs.Views.{LinkView}
 use Rattle.nr_commands.specs.Commands.{Finds, FindsParent, Gets, Lists, MakesDirectory, MakesSymlink, Mounts, MountsAndPrints, Puts, ReadsLink, Removes, Stats, Symlinks}
 use Rattle.nr_commands.specs.Printed.{attributes_text, handle_text, names_text, path_text}
 use Rattle.nr_commands.specs.Running.{IsPrinted, text_of}
@@ -150,8 +149,8 @@ printed_fine handed_over (Err why) (Err end) out out' s s' (is, same) one =
     subst (λ (e : ClientEnd). IsFine handed_over {A = Unit {0}} s s' (Err e)) (sym is) (counts_as (List ℕ) (Unit {0}) s s' why one.0, one.1)
 
 -- no session ends for its dialer
-not_dial : (F : ClientEnd → Type 0) (result : Result (Unit {0}) ClientEnd) (b : LinkBytes) (h : RequesterSide) → GivenIs Any F result b h → result ≡ Err client.DialFault → ⊥
-not_dial F result b h is same = subst (λ (r : Result (Unit {0}) ClientEnd). GivenIs Any F r b h) same is
+not_dial : (F : ClientEnd → Type 0) (result : Result (Unit {0}) ClientEnd) (b : LinkView) → GivenIs Any F result b → result ≡ Err client.DialFault → ⊥
+not_dial F result b is same = subst (λ (r : Result (Unit {0}) ClientEnd). GivenIs Any F r b) same is
 
 pub replies_exclude_ends_lem : RepliesExcludeEnds
 replies_exclude_ends_lem c before after input input' out out' result (NotOpened end is fails same_input same_out) = tt
@@ -159,6 +158,6 @@ replies_exclude_ends_lem c before after input input' out out' result (Opened dia
     let made = (tells_text c.uid c.gid c.export c.action input input' out prints.written s s' prints.text prints.made).made in
     let fine = printed_fine (outcomes_in made) prints.text result prints.written out' s s' prints.prints (command_text c.uid c.gid c.export c.action input input' out prints.written s s' prints.text prints.made) in (
       fine.0,
-      not_dial (PeerEnd c input made (Rises input.faults input'.faults) (Rises out.faults out'.faults)) result s'.bytes s'.requester (given_by_peer c before dialed s s' input input' out out' result opens prints),
+      not_dial (PeerEnd c input made (Rises input.faults input'.faults) (Rises out.faults out'.faults)) result s' (given_by_peer c before dialed s s' input input' out out' result opens prints),
       fine.1,
     )

@@ -6,7 +6,6 @@ use Rattle.nr_nfs_base.specs.Limits.{link_target_max}
 use Rattle.nr_words.specs.Limits.{mount_path_max}
 use Rattle.nr_reduce.specs.declared.call.Call.{Call}
 use Rattle.nr_reduce.specs.declared.call.Outcome.{Outcome}
-use Rattle.nr_requester.specs.RequesterState.{RequesterSide}
 use Rattle.nr_client.specs.declared.client_end.ClientEnd.{ClientEnd}
 use Rattle.nr_client.specs.declared.client_end.ClientEnd.TheVariants as client
 use Rattle.nr_client.specs.Following.{EndsWith, Follows, Next, Unanswered}
@@ -14,13 +13,13 @@ use Rattle.nr_client.specs.Following.Next.{Calls, Returns}
 use Rattle.nr_client.specs.Reading.{EndsReading, OpenRead, ReadingAt, ReadsFile, reading}
 use Rattle.nr_client.specs.Reading.EndsReading.{EndsByReplies, OutputFails, NotAnswered, NotSubmitted, OldestForgotten}
 use Rattle.nr_client.specs.Requests.{Asks, create_result, mnt_call, mnt_result, symlink_call}
-use Rattle.nr_client.specs.Transfers.{LinkBytes}
 use Rattle.nr_client.specs.Walking.{parent_next, walk_next}
 use Rattle.nr_client.specs.Writing.{EndsWriting, writing}
 use Rattle.nr_client.specs.Writing.EndsWriting.{FollowsInput, InputFails}
 use Rattle.nr_commands.specs.Commands.{Finds, FindsParent, IsSilent, Mounts, ReadsOut, Symlinks, WritesIn}
 use Rattle.nr_commands.specs.Sessions.{CountsFaults, Fails, Part, Request, Requests, SessionAt, Text as Prints, Then}
 use Rattle.nr_client.specs.Requests.{SinkFaults, SourceFaults}
+use Rattle.nr_client.specs.Views.{LinkView}
 use Rattle.nr_service_laws.specs.CommandEnds.{AreReplies, ResultCanFollowReplies, CanFollowReplies}
 use Rattle.nr_service_laws.specs.Exchanges.{Exchange, Exchanges, Tells, asked_exchanges, followed_exchanges, outcomes_in, read_exchanges, tells_finds, tells_finds_parent, tells_mounts, tells_none, tells_reads_out, tells_request, tells_requests, tells_symlinks, tells_then, tells_writes_in, within_exchanges, write_exchanges_by}
 use Rattle.nr_service_laws.proofs.OutcomesInOrder.{followed_outcomes, outcomes_both, read_outcomes}
@@ -38,24 +37,24 @@ replies_made made later are = replies_both (outcomes_in made) (outcomes_in later
 
 -- ---- Requests
 
-asks_fine : {A : Type 0} (reads : Outcome → Result A ClientEnd) (call : Call) (b c : LinkBytes) (h i : RequesterSide) (result : Result A ClientEnd) (asks : Asks reads call b c h i result)
-    → ReadsReplies reads → AreReplies (outcomes_in (asked_exchanges reads call b c h i result asks).made) → ResultCanFollowReplies result
-asks_fine reads call b c h i result (inl (outcome, (answers, gives))) fine are = gives_fine result (reads outcome) gives (fine outcome are.0)
-asks_fine {A} reads call b c h i result (inr (inl (cause, (is, rest)))) fine are = subst (λ (r : Result A ClientEnd). ResultCanFollowReplies r) (sym is) tt
-asks_fine {A} reads call b c h i result (inr (inr (is, same))) fine are = subst (λ (r : Result A ClientEnd). ResultCanFollowReplies r) (sym is) tt
+asks_fine : {A : Type 0} (reads : Outcome → Result A ClientEnd) (call : Call) (b c : LinkView) (result : Result A ClientEnd) (asks : Asks reads call b c result)
+    → ReadsReplies reads → AreReplies (outcomes_in (asked_exchanges reads call b c result asks).made) → ResultCanFollowReplies result
+asks_fine reads call b c result (inl (outcome, (answers, gives))) fine are = gives_fine result (reads outcome) gives (fine outcome are.0)
+asks_fine {A} reads call b c result (inr (inl (cause, (is, rest)))) fine are = subst (λ (r : Result A ClientEnd). ResultCanFollowReplies r) (sym is) tt
+asks_fine {A} reads call b c result (inr (inr (is, same))) fine are = subst (λ (r : Result A ClientEnd). ResultCanFollowReplies r) (sym is) tt
 
-unanswered_fine : (call : Call) (b c : LinkBytes) (h i : RequesterSide) (end : ClientEnd) → Unanswered call b c h i end → CanFollowReplies end
-unanswered_fine call b c h i end (inl (cause, (is, rest))) = subst CanFollowReplies (sym is) tt
-unanswered_fine call b c h i end (inr (is, same)) = subst CanFollowReplies (sym is) tt
+unanswered_fine : (call : Call) (b c : LinkView) (end : ClientEnd) → Unanswered call b c end → CanFollowReplies end
+unanswered_fine call b c end (inl (cause, (is, rest))) = subst CanFollowReplies (sym is) tt
+unanswered_fine call b c end (inr (is, same)) = subst CanFollowReplies (sym is) tt
 
-end_fine : {A : Type 0} (next : Next A) (b c : LinkBytes) (h i : RequesterSide) (given : Result A ClientEnd) → EndsWith next b c h i given → NextFine next → ResultCanFollowReplies given
-end_fine (Returns result) b c h i given (gives, same) fine = gives_fine given result gives fine
-end_fine {A} (Calls call) b c h i given (end, (is, gone)) fine = subst (λ (r : Result A ClientEnd). ResultCanFollowReplies r) (sym is) (unanswered_fine call b c h i end gone)
+end_fine : {A : Type 0} (next : Next A) (b c : LinkView) (given : Result A ClientEnd) → EndsWith next b c given → NextFine next → ResultCanFollowReplies given
+end_fine (Returns result) b c given (gives, same) fine = gives_fine given result gives fine
+end_fine {A} (Calls call) b c given (end, (is, gone)) fine = subst (λ (r : Result A ClientEnd). ResultCanFollowReplies r) (sym is) (unanswered_fine call b c end gone)
 
-follows_fine : {A : Type 0} (request : List Outcome → Next A) (b c : LinkBytes) (h i : RequesterSide) (given : Result A ClientEnd) (f : Follows request b c h i given)
-    → RequestFine request → AreReplies (outcomes_in (followed_exchanges request b c h i given f).made) → ResultCanFollowReplies given
-follows_fine request b c h i given f fine are =
-    end_fine (request f.outcomes) f.between c f.side i given f.ends (fine f.outcomes (subst AreReplies (followed_outcomes request b c h i given f) are))
+follows_fine : {A : Type 0} (request : List Outcome → Next A) (b c : LinkView) (given : Result A ClientEnd) (f : Follows request b c given)
+    → RequestFine request → AreReplies (outcomes_in (followed_exchanges request b c given f).made) → ResultCanFollowReplies given
+follows_fine request b c given f fine are =
+    end_fine (request f.outcomes) f.between c given f.ends (fine f.outcomes (subst AreReplies (followed_outcomes request b c given f) are))
 
 -- ---- A file
 
@@ -63,28 +62,28 @@ read_result_fine : (given result : Result (Unit {0}) ClientEnd) (next : Next (Un
 read_result_fine given result next fine (inl is) = subst (λ (r : Result (Unit {0}) ClientEnd). ResultCanFollowReplies r) (sym is) tt
 read_result_fine given result next fine (inr is) = subst (λ (n : Next (Unit {0})). NextFine n) is fine
 
-reading_end_fine : (uid gid : ℕ) (file : List ℕ) (s : ReadingAt) (left : List OpenRead) (b : LinkBytes) (h : RequesterSide) (taken taken' : Option (List ℕ)) (given : Result (Unit {0}) ClientEnd)
-    → EndsReading uid gid file s left b h taken taken' given → AreReplies s.outcomes → ResultCanFollowReplies given
-reading_end_fine uid gid file s left b h taken taken' given (EndsByReplies same is waits takes) are =
+reading_end_fine : (uid gid : ℕ) (file : List ℕ) (s : ReadingAt) (left : List OpenRead) (b : LinkView) (taken taken' : Option (List ℕ)) (given : Result (Unit {0}) ClientEnd)
+    → EndsReading uid gid file s left b taken taken' given → AreReplies s.outcomes → ResultCanFollowReplies given
+reading_end_fine uid gid file s left b taken taken' given (EndsByReplies same is waits takes) are =
     read_result_fine given given (reading uid gid file s.outcomes) (file_fine uid gid file s.outcomes are) is
-reading_end_fine uid gid file s left b h taken taken' given (OutputFails is same waits takes) are = subst (λ (r : Result (Unit {0}) ClientEnd). ResultCanFollowReplies r) (sym is) tt
-reading_end_fine uid gid file s left b h taken taken' given (NotAnswered call end alone is gone waits takes) are =
-    subst (λ (r : Result (Unit {0}) ClientEnd). ResultCanFollowReplies r) (sym is) (unanswered_fine call s.bytes b s.side h end gone)
-reading_end_fine uid gid file s left b h taken taken' given (NotSubmitted call end ahead is refused waits takes) are =
+reading_end_fine uid gid file s left b taken taken' given (OutputFails is same waits takes) are = subst (λ (r : Result (Unit {0}) ClientEnd). ResultCanFollowReplies r) (sym is) tt
+reading_end_fine uid gid file s left b taken taken' given (NotAnswered call end alone is gone waits takes) are =
+    subst (λ (r : Result (Unit {0}) ClientEnd). ResultCanFollowReplies r) (sym is) (unanswered_fine call s.link b end gone)
+reading_end_fine uid gid file s left b taken taken' given (NotSubmitted call end ahead is refused waits takes) are =
     subst (λ (r : Result (Unit {0}) ClientEnd). ResultCanFollowReplies r) (sym is) tt
-reading_end_fine uid gid file s left b h taken taken' given (OldestForgotten read end full is given_is forgets waits takes) are =
+reading_end_fine uid gid file s left b taken taken' given (OldestForgotten read end full is given_is forgets waits takes) are =
     subst (λ (r : Result (Unit {0}) ClientEnd). ResultCanFollowReplies r) (sym given_is) tt
 
-reads_fine : (uid gid : ℕ) (file : List ℕ) (b c : LinkBytes) (h i : RequesterSide) (taken taken' : Option (List ℕ)) (given : Result (Unit {0}) ClientEnd)
-    (f : ReadsFile uid gid file b c h i taken taken' given) → AreReplies (outcomes_in (read_exchanges uid gid file b c h i taken taken' given f).made) → ResultCanFollowReplies given
-reads_fine uid gid file b c h i taken taken' given f are =
-    reading_end_fine uid gid file f.last f.left c f.side taken taken' given f.ends (subst AreReplies (read_outcomes uid gid file b c h i taken taken' given f) are)
+reads_fine : (uid gid : ℕ) (file : List ℕ) (b c : LinkView) (taken taken' : Option (List ℕ)) (given : Result (Unit {0}) ClientEnd)
+    (f : ReadsFile uid gid file b c taken taken' given) → AreReplies (outcomes_in (read_exchanges uid gid file b c taken taken' given f).made) → ResultCanFollowReplies given
+reads_fine uid gid file b c taken taken' given f are =
+    reading_end_fine uid gid file f.last f.left f.ended taken taken' given f.ends (subst AreReplies (read_outcomes uid gid file b c taken taken' given f) are)
 
-writes_fine : (uid gid : ℕ) (dir name handed rest : List ℕ) (b c : LinkBytes) (h i : RequesterSide) (result : Result (Unit {0}) ClientEnd) (w : EndsWriting uid gid dir name handed rest b c h i result)
-    → AreReplies (outcomes_in (write_exchanges_by uid gid dir name handed rest b c h i result w).made) → ResultCanFollowReplies result
-writes_fine uid gid dir name handed rest b c h i result (FollowsInput follows count ahead) are =
-    follows_fine (writing uid gid dir name (handed ++ rest)) b c h i result follows (writing_fine uid gid dir name (handed ++ rest)) are
-writes_fine uid gid dir name handed rest b c h i result (InputFails outcomes is made ahead) are = subst (λ (r : Result (Unit {0}) ClientEnd). ResultCanFollowReplies r) (sym is) tt
+writes_fine : (uid gid : ℕ) (dir name handed rest : List ℕ) (b c : LinkView) (result : Result (Unit {0}) ClientEnd) (w : EndsWriting uid gid dir name handed rest b c result)
+    → AreReplies (outcomes_in (write_exchanges_by uid gid dir name handed rest b c result w).made) → ResultCanFollowReplies result
+writes_fine uid gid dir name handed rest b c result (FollowsInput follows count ahead) are =
+    follows_fine (writing uid gid dir name (handed ++ rest)) b c result follows (writing_fine uid gid dir name (handed ++ rest)) are
+writes_fine uid gid dir name handed rest b c result (InputFails outcomes is made ahead) are = subst (λ (r : Result (Unit {0}) ClientEnd). ResultCanFollowReplies r) (sym is) tt
 
 -- ---- Fault counts of two parts
 
@@ -128,10 +127,10 @@ part_text text s s' (Ok t) (same, is) = (same_counts s s' same, λ are. tt)
 part_text text s s' (Err end) (same, is) = subst (λ (e : ClientEnd). IsFine [] {A = List ℕ} s s' (Err e)) (sym is) (same_counts s s' same, λ are. tt)
 
 pub part_request : {A : Type 0} (reads : Outcome → Result A ClientEnd) (call : Call) → ReadsReplies reads → PartFine (Request reads call) (tells_request reads call)
-part_request reads call fine s s' result is = (is.1, λ are. asks_fine reads call s.bytes s'.bytes s.requester s'.requester result is.0 fine are)
+part_request reads call fine s s' result is = (is.1, λ are. asks_fine reads call s s' result is.0 fine are)
 
 pub part_requests : {A : Type 0} (request : List Outcome → Next A) → RequestFine request → PartFine (Requests request) (tells_requests request)
-part_requests request fine s s' result is = (is.1, λ are. follows_fine request s.bytes s'.bytes s.requester s'.requester result is.0 fine are)
+part_requests request fine s s' result is = (is.1, λ are. follows_fine request s s' result is.0 fine are)
 
 pub part_then : {A B : Type 0} (first : Part A) (next : A → Part B) (exchanges : Tells first) (later : (value : A) → Tells (next value)) → PartFine first exchanges → ((value : A) → PartFine (next value) (later value))
     → PartFine (Then first next) (tells_then first next exchanges later)
@@ -183,9 +182,9 @@ silent_fine handed_over s s' (Err end) (Err why) silent fine =
 pub part_reads_out : (uid gid : ℕ) (file : List ℕ) (out out' : SinkAt) → PartFine (ReadsOut uid gid file out out') (tells_reads_out uid gid file out out')
 part_reads_out uid gid file out out' s s' text (done, ((reads, counts), silent)) =
     silent_fine (outcomes_in (tells_reads_out uid gid file out out' s s' text (done, ((reads, counts), silent))).made) s s' done text silent
-    (counts.1, λ are. reads_fine uid gid file s.bytes s'.bytes s.requester s'.requester out.taken out'.taken done reads are)
+    (counts.1, λ are. reads_fine uid gid file s s' out.taken out'.taken done reads are)
 
 pub part_writes_in : (uid gid : ℕ) (dir name : List ℕ) (input input' : SourceAt) → PartFine (WritesIn uid gid dir name input input') (tells_writes_in uid gid dir name input input')
 part_writes_in uid gid dir name input input' s s' text (done, ((writes, counts), silent)) =
     silent_fine (outcomes_in (tells_writes_in uid gid dir name input input' s s' text (done, ((writes, counts), silent))).made) s s' done text silent
-    (counts.1, λ are. writes_fine uid gid dir name writes.handed writes.rest s.bytes s'.bytes s.requester s'.requester done writes.calls are)
+    (counts.1, λ are. writes_fine uid gid dir name writes.handed writes.rest s s' done writes.calls are)

@@ -24,7 +24,7 @@ use Rattle.nr_client.specs.declared.call_end.CallEnd.TheVariants as calls
 use Rattle.nr_client.specs.declared.client_end.ClientEnd.{ClientEnd}
 use Rattle.nr_client.specs.declared.client_end.ClientEnd.TheVariants as client
 use Rattle.nr_client.specs.Dialing.{DialerAt}
-use Rattle.nr_client.specs.Transfers.{LinkBytes}
+use Rattle.nr_client.specs.Views.{LinkView}
 use Rattle.nr_commands.specs.Running.{Runs}
 use Rattle.nr_commands.specs.Running.Runs.{NotOpened, Opened}
 use Rattle.nr_service_laws.specs.CommandRuns.{IsCommandRun}
@@ -35,23 +35,23 @@ use Rattle.nr_service_laws.specs.ServedLinks.{IsServedBy}
 abbrev pub RefusesOne : RequesterSide → Refused → Type 0
 RefusesOne h why = (call : Call) × (answer_of h.state call forms.Auto ≡ submissions.Refused why)
 
--- The cause of an end, by what is known of the link's bytes and by its requester. A requester of which memory ran out may be in any state.
-abbrev pub CauseAt : CallEnd → LinkBytes → RequesterSide → Type 0
-CauseAt (calls.Ended end) b h = (end ≡ ends.Memory) ⊎ (h.state.side.ended ≡ Some end)
-CauseAt calls.LinkRead b h = (h.state.side.ended ≡ None) × (b.read < read_max)
-CauseAt calls.LinkWrite b h = ⊤
-CauseAt calls.Closed b h = (h.state.side.ended ≡ None) × (IsAtEnd b.left × ((b.read < read_max) × ((0 < length h.state.outstanding) × (queue_of h.state ≡ []))))
-CauseAt (calls.Spent left_over need) b h = RefusesOne h (refusals.Spent left_over need)
-CauseAt (calls.TooLarge need room) b h = RefusesOne h (refusals.TooLarge need room)
-CauseAt (calls.Budget count) b h = (h.state.side.ended ≡ None) × ((count ≡ read_max) × (b.read ≡ read_max))
-CauseAt calls.Memory b h = ⊤
+-- The cause of an end, by the link. A requester of which memory ran out may be in any state.
+abbrev pub CauseAt : CallEnd → LinkView → Type 0
+CauseAt (calls.Ended end) v = (end ≡ ends.Memory) ⊎ (v.requester.state.side.ended ≡ Some end)
+CauseAt calls.LinkRead v = (v.requester.state.side.ended ≡ None) × (v.bytes.read < read_max)
+CauseAt calls.LinkWrite v = ⊤
+CauseAt calls.Closed v = (v.requester.state.side.ended ≡ None) × (IsAtEnd v.bytes.left × ((v.bytes.read < read_max) × ((0 < length v.requester.state.outstanding) × (queue_of v.requester.state ≡ []))))
+CauseAt (calls.Spent left_over need) v = RefusesOne v.requester (refusals.Spent left_over need)
+CauseAt (calls.TooLarge need room) v = RefusesOne v.requester (refusals.TooLarge need room)
+CauseAt (calls.Budget count) v = (v.requester.state.side.ended ≡ None) × ((count ≡ read_max) × (v.bytes.read ≡ read_max))
+CauseAt calls.Memory v = ⊤
 
 -- A command that ends since a call has no answer has the cause of that end when its link is hung up.
 abbrev pub HasCause : (c : Client Text) (before after : DialerAt) (input input' : SourceAt) (out out' : SinkAt) (result : Result (Unit {0}) ClientEnd)
     → Runs c before after input input' out out' result → Type 0
 HasCause c before after input input' out out' result (NotOpened end is fails same_input same_out) = ⊤
 HasCause c before after input input' out out' result (Opened dialed s s' opens prints closes) =
-    (end : CallEnd) → result ≡ Err (client.Link end) → CauseAt end s'.bytes s'.requester
+    (end : CallEnd) → result ≡ Err (client.Link end) → CauseAt end s'
 
 abbrev pub EndsHaveCauses : Type 0
 EndsHaveCauses =

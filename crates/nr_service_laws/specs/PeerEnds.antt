@@ -59,9 +59,9 @@ pub data PassesLimit (c : Client Text) (input : SourceAt) (made : List Exchange)
 -- path is bad; a limit was passed; a count of faults rose; or the call has the cause of its end.
 abbrev pub EndSays : (c : Client Text) (made : List Exchange) (s s' : SessionAt) (input input' : SourceAt) (out out' : SinkAt) → ClientEnd → Type 0
 EndSays c made s s' input input' out out' client.DialFault = ⊥
-EndSays c made s s' input input' out out' (client.Link calls.LinkRead) = Rises s.source_faults s'.source_faults × CauseAt calls.LinkRead s'.bytes s'.requester
+EndSays c made s s' input input' out out' (client.Link calls.LinkRead) = Rises s.source_faults s'.source_faults × CauseAt calls.LinkRead s'
 EndSays c made s s' input input' out out' (client.Link calls.LinkWrite) = Rises s.sink_faults s'.sink_faults
-EndSays c made s s' input input' out out' (client.Link end) = CauseAt end s'.bytes s'.requester
+EndSays c made s s' input input' out out' (client.Link end) = CauseAt end s'
 EndSays c made s s' input input' out out' (client.BadPath at) = IsBadPath c.action at
 EndSays c made s s' input input' out out' client.InputFault = Rises input.faults input'.faults
 EndSays c made s s' input input' out out' client.OutputFault = Rises out.faults out'.faults

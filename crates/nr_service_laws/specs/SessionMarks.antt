@@ -16,6 +16,7 @@ use Rattle.nr_client.specs.declared.client_end.ClientEnd.{ClientEnd}
 use Rattle.nr_client.specs.declared.client_end.ClientEnd.TheVariants as client
 use Rattle.nr_client.specs.Steps.{IsLive, WritesFirst}
 use Rattle.nr_client.specs.Transfers.{LinkBytes}
+use Rattle.nr_client.specs.Views.{LinkView}
 use Rattle.nr_reduce.specs.declared.call.Call.{Call}
 use Rattle.nr_reduce.specs.declared.call.Outcome.{Outcome}
 use Rattle.nr_client.specs.Following.{Follows, Next}
@@ -48,46 +49,47 @@ pub record Does {A : Type 0} (result : Result A ClientEnd) (opened : LinkParamet
   pub lacks : LacksOutcome exchanges.lost opened link (run ++ more)
 
 -- so it is for all marks that the requester stood for
-abbrev pub HasDone : {A : Type 0} → Result A ClientEnd → (b b' : LinkBytes) (h h' : RequesterSide) → Exchanges → Type 0
-HasDone result b b' h h' exchanges = (opened : LinkParameters) (link : ℕ) (run : List Mark) → IsOpened opened → IsLive opened link h run → Does result opened link run b b' h' exchanges
+abbrev pub HasDone : {A : Type 0} → Result A ClientEnd → (v w : LinkView) → Exchanges → Type 0
+HasDone result v w exchanges =
+    (opened : LinkParameters) (link : ℕ) (run : List Mark) → IsOpened opened → IsLive opened link v.requester run → Does result opened link run v.bytes w.bytes w.requester exchanges
 
 -- ---- Each request of a session
 
 -- a request of one call; a request of several calls
 abbrev pub AsksHaveMarks : Type 0 → Type 0
 AsksHaveMarks A =
-    (reads : Outcome → Result A ClientEnd) (call : Call) (b b' : LinkBytes) (h h' : RequesterSide) (result : Result A ClientEnd) (asks : Asks reads call b b' h h' result) →
-    HasDone result b b' h h' (asked_exchanges reads call b b' h h' result asks)
+    (reads : Outcome → Result A ClientEnd) (call : Call) (v w : LinkView) (result : Result A ClientEnd) (asks : Asks reads call v w result) →
+    HasDone result v w (asked_exchanges reads call v w result asks)
 
 abbrev pub FollowsHaveMarks : Type 0 → Type 0
 FollowsHaveMarks A =
-    (request : List Outcome → Next A) (b b' : LinkBytes) (h h' : RequesterSide) (result : Result A ClientEnd) (follows : Follows request b b' h h' result) →
-    HasDone result b b' h h' (followed_exchanges request b b' h h' result follows)
+    (request : List Outcome → Next A) (v w : LinkView) (result : Result A ClientEnd) (follows : Follows request v w result) →
+    HasDone result v w (followed_exchanges request v w result follows)
 
 -- a file is read; a file is written
 abbrev pub ReadsHaveMarks : Type 0
 ReadsHaveMarks =
-    (uid gid : ℕ) (file : List ℕ) (b b' : LinkBytes) (h h' : RequesterSide) (taken taken' : Option (List ℕ)) (result : Result (Unit {0}) ClientEnd)
-    (reads : ReadsFile uid gid file b b' h h' taken taken' result) →
-    HasDone result b b' h h' (read_exchanges uid gid file b b' h h' taken taken' result reads)
+    (uid gid : ℕ) (file : List ℕ) (v w : LinkView) (taken taken' : Option (List ℕ)) (result : Result (Unit {0}) ClientEnd)
+    (reads : ReadsFile uid gid file v w taken taken' result) →
+    HasDone result v w (read_exchanges uid gid file v w taken taken' result reads)
 
 abbrev pub WritesHaveMarks : Type 0
 WritesHaveMarks =
-    (uid gid : ℕ) (dir name : List ℕ) (b b' : LinkBytes) (h h' : RequesterSide) (left given left' given' : Option (List ℕ)) (result : Result (Unit {0}) ClientEnd)
-    (writes : WritesFile uid gid dir name b b' h h' left given left' given' result) →
-    HasDone result b b' h h' (write_exchanges uid gid dir name b b' h h' left given left' given' result writes)
+    (uid gid : ℕ) (dir name : List ℕ) (v w : LinkView) (left given left' given' : Option (List ℕ)) (result : Result (Unit {0}) ClientEnd)
+    (writes : WritesFile uid gid dir name v w left given left' given' result) →
+    HasDone result v w (write_exchanges uid gid dir name v w left given left' given' result writes)
 
 -- The outcomes that are handed over by these marks are the ones from which each call and the result of a request follow.
 abbrev pub FollowsOutcomes : Type 0 → Type 0
 FollowsOutcomes A =
-    (request : List Outcome → Next A) (b b' : LinkBytes) (h h' : RequesterSide) (result : Result A ClientEnd) (follows : Follows request b b' h h' result) →
-    outcomes_in (followed_exchanges request b b' h h' result follows).made ≡ follows.outcomes
+    (request : List Outcome → Next A) (v w : LinkView) (result : Result A ClientEnd) (follows : Follows request v w result) →
+    outcomes_in (followed_exchanges request v w result follows).made ≡ follows.outcomes
 
 abbrev pub ReadsInOrder : Type 0
 ReadsInOrder =
-    (uid gid : ℕ) (file : List ℕ) (b b' : LinkBytes) (h h' : RequesterSide) (taken taken' : Option (List ℕ)) (result : Result (Unit {0}) ClientEnd)
-    (reads : ReadsFile uid gid file b b' h h' taken taken' result) →
-    outcomes_in (read_exchanges uid gid file b b' h h' taken taken' result reads).made ≡ reads.last.outcomes
+    (uid gid : ℕ) (file : List ℕ) (v w : LinkView) (taken taken' : Option (List ℕ)) (result : Result (Unit {0}) ClientEnd)
+    (reads : ReadsFile uid gid file v w taken taken' result) →
+    outcomes_in (read_exchanges uid gid file v w taken taken' result reads).made ≡ reads.last.outcomes
 
 -- A session goes on after this result: no write failed, and memory didn't run out for a frame.
 pub record LetsGoOn {A : Type 0} (result : Result A ClientEnd) : Type 0 where
@@ -97,8 +99,8 @@ pub record LetsGoOn {A : Type 0} (result : Result A ClientEnd) : Type 0 where
 -- Two of them one after another, whatever the first gives after which a session goes on: a value, or a refusal of the server.
 abbrev pub MarksGoOn : Type 0 → Type 0 → Type 0
 MarksGoOn A B =
-    (given : Result A ClientEnd) (result : Result B ClientEnd) (b c d : LinkBytes) (h i j : RequesterSide) (first later : Exchanges) →
-    LetsGoOn given → HasDone given b c h i first → HasDone result c d i j later → HasDone result b d h j (and_then first later)
+    (given : Result A ClientEnd) (result : Result B ClientEnd) (u v w : LinkView) (first later : Exchanges) →
+    LetsGoOn given → HasDone given u v first → HasDone result v w later → HasDone result u w (and_then first later)
 
 -- A session that was opened stands for no marks.
 abbrev pub SessionsBegin : Type 0

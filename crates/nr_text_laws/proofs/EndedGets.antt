@@ -149,11 +149,11 @@ module _ (s : Setup) (J : List Entry) (uid gid : ℕ) (ids : AreIds uid gid) (na
     pub file_is : (before mid : SessionAt) (file : List ℕ) (finds : Finds uid gid export path before mid (Ok file)) → AreJudged Answers [] (tells_finds uid gid export path before mid (Ok file) finds).made → file ≡ h.file
     file_is before mid file (inl (root, (m, (mounts, walks)))) are =
         let mounts_made = (tells_mounts uid gid export before m (Ok root) mounts).made in
-        let walks_made = (followed_exchanges (walk_next uid gid root path) m.bytes mid.bytes m.requester mid.requester (Ok file) walks.0).made in
+        let walks_made = (followed_exchanges (walk_next uid gid root path) m mid (Ok file) walks.0).made in
         let parts = judged_both Answers [] mounts_made walks_made are in
         let mount = mounted Answers uid gid export before m root (nat_lt mount_path_max (length export)) mounts parts.0 in
         let root_same : root ≡ root_handle = (mounted_at s J uid gid ids export mount.0 mount.1.1.0 mount.1.1.1.0 root mount.1.0).0 in
-        let walk = followed Answers (walk_next uid gid root path) m.bytes mid.bytes m.requester mid.requester file walks.0 (reads_after [] mounts_made) parts.1 in
+        let walk = followed Answers (walk_next uid gid root path) m mid file walks.0 (reads_after [] mounts_made) parts.1 in
         let calls : AnsweredSince s J (KeepPath s J root_handle names) (walk_from uid gid root names) walk.outcomes from =
         subst (λ (r : Result (List (List ℕ)) ClientEnd). AnsweredSince s J (KeepPath s J root_handle names) (λ more. go_on r (λ ns. walk_from uid gid root ns more)) walk.outcomes from) names_are
         (since s J from root_handle names keep (walk_next uid gid root path) walk.outcomes walk.answers) in
@@ -174,12 +174,12 @@ module _ (s : Setup) (J : List Entry) (uid gid : ℕ) (ids : AreIds uid gid) (na
     no_more why end same un = subst (λ (e : ClientEnd). IsUnanswered {A = List ℕ} (Err e)) (sym same) un
 
     reads_ended : (out out' : SinkAt) (mid after : SessionAt) (file : List ℕ) → file ≡ h.file → (why : ClientEnd)
-        (f : ReadsFile uid gid file mid.bytes after.bytes mid.requester after.requester out.taken out'.taken (Err why)) (before : List OpenRead)
-        → AreJudged Answers before (read_exchanges uid gid file mid.bytes after.bytes mid.requester after.requester out.taken out'.taken (Err why) f).made → EndsReads why
+        (f : ReadsFile uid gid file mid after out.taken out'.taken (Err why)) (before : List OpenRead)
+        → AreJudged Answers before (read_exchanges uid gid file mid after out.taken out'.taken (Err why) f).made → EndsReads why
     reads_ended out out' mid after file same why f before are =
         by f.ends
-        (steps_judged Answers uid gid file before mid.bytes mid.requester f.between f.last f.made
-        (judged_both Answers before (steps_exchanges uid gid file (starts_at mid.bytes mid.requester) f.between f.last f.made).made _ are).0).answers
+        (steps_judged Answers uid gid file before mid f.between f.last f.made
+        (judged_both Answers before (steps_exchanges uid gid file (starts_at mid) f.between f.last f.made).made _ are).0).answers
       where
         returned : (os : List Outcome) → AreAnswers Answers (reading uid gid file) os → (◌≡◌ {A = Result (Unit {0}) ClientEnd} (Err why) (Err client.Memory)) ⊎ (reading uid gid file os ≡ Returns (Err why)) → EndsReads why
         returned os answers (inl wrong) = inl (no_more why client.Memory (let memory : why ≡ client.Memory = cc in memory) tt)
@@ -188,12 +188,12 @@ module _ (s : Setup) (J : List Entry) (uid gid : ℕ) (ids : AreIds uid gid) (na
             (subst (λ (g : List ℕ). AnsweredSince s J (KeepPath s J root_handle names) (reading uid gid g) os from) same (since s J from root_handle names keep (reading uid gid file) os answers))
             (subst (λ (g : List ℕ). EndsAt why (reading uid gid g os)) same is)))
 
-        by : EndsReading uid gid file f.last f.left after.bytes f.side out.taken out'.taken (Err why) → AreAnswers Answers (reading uid gid file) f.last.outcomes → EndsReads why
+        by : EndsReading uid gid file f.last f.left f.ended out.taken out'.taken (Err why) → AreAnswers Answers (reading uid gid file) f.last.outcomes → EndsReads why
         by (EndsByReplies still is waits takes) answers = returned f.last.outcomes answers is
         by (OutputFails wrong still waits takes) answers = inr (inl (let fault : why ≡ client.OutputFault = cc in fault))
         by (NotAnswered call end alone is gone waits takes) answers =
             let this : why ≡ end = cc in
-            inl (no_answer {A = List ℕ} call f.last.bytes after.bytes f.last.side f.side end (Err why) (ap (λ (e : ClientEnd). Err e) this) gone)
+            inl (no_answer {A = List ℕ} call f.last.link f.ended end (Err why) (ap (λ (e : ClientEnd). Err e) this) gone)
         by (NotSubmitted call end ahead is refused waits takes) answers = inl (no_more why (client.Link end) (let link : why ≡ client.Link end = cc in link) tt)
         by (OldestForgotten read end full oldest is forgets waits takes) answers = inl (no_more why (client.Link end) (let link : why ≡ client.Link end = cc in link) tt)
 
@@ -231,7 +231,7 @@ module _ (s : Setup) (J : List Entry) (uid gid : ℕ) (ids : AreIds uid gid) (na
     ended out out' before after end (inl (file, (mid, (finds, (Ok done, ((reads, counts), silent)))))) are = absurd silent
     ended out out' before after end (inl (file, (mid, (finds, (Err why, ((reads, counts), silent)))))) are =
         let finds_made = (tells_finds uid gid export path before mid (Ok file) finds).made in
-        let reads_made = (read_exchanges uid gid file mid.bytes after.bytes mid.requester after.requester out.taken out'.taken (Err why) reads).made in
+        let reads_made = (read_exchanges uid gid file mid after out.taken out'.taken (Err why) reads).made in
         let parts = judged_both Answers [] finds_made reads_made (judged s J from (finds_made ++ reads_made) [] from (omega arith) tt are) in
         by (reads_ended out out' mid after file (file_is before mid file finds parts.0) why reads (reads_after [] finds_made) parts.1)
       where

@@ -20,7 +20,7 @@ use Rattle.nr_client.specs.declared.client_end.ClientEnd.{ClientEnd}
 use Rattle.nr_client.specs.declared.client_end.ClientEnd.TheVariants as client
 use Rattle.nr_client.specs.Following.{Next}
 use Rattle.nr_client.specs.Following.Next.{Calls, Returns}
-use Rattle.nr_client.specs.Jobs.{AreExchanges, EndsByJobs, IsExchange, LinkAt, ReadsFileByJobs, ReadsShared, bytes_at}
+use Rattle.nr_client.specs.Jobs.{AreExchanges, EndsByJobs, IsExchange, LinkAt, ReadsFileByJobs, ReadsShared, view_at}
 use Rattle.nr_client.specs.Jobs.ReadsFileByJobs.{NoAttributes, Shared}
 use Rattle.nr_client.specs.Paths.{path_names}
 use Rattle.nr_client.specs.Reading.{offset_after, piece_left, read_call, read_result, reading, with_data, with_size}
@@ -175,10 +175,10 @@ module _ (s : Setup) (J : List Entry) (uid gid : ℕ) (ids : AreIds uid gid) (na
 
     -- a GETATTR of the file isn't refused
     no_attributes : (at mid : SessionAt) (link : LinkAt) (file : List ℕ) (finds : Finds uid gid export path at mid (Ok file)) (why end : ClientEnd) → ◌≡◌ {A = Result (Unit {0}) ClientEnd} (Err end) (Err why)
-        → (asks : Asks getattr_result (getattr_call uid gid file) (bytes_at (link_of mid)) (bytes_at link) (link_of mid).requester link.requester (Err why)) (made : List Exchange)
+        → (asks : Asks getattr_result (getattr_call uid gid file) (view_at (link_of mid)) (view_at link) (Err why)) (made : List Exchange)
         → AreAnsweredFrom s J from []
         ((tells_finds uid gid export path at mid (Ok file) finds).made
-        ++ (asked_exchanges getattr_result (getattr_call uid gid file) (bytes_at (link_of mid)) (bytes_at link) (link_of mid).requester link.requester (Err why) asks).made)
+        ++ (asked_exchanges getattr_result (getattr_call uid gid file) (view_at (link_of mid)) (view_at link) (Err why) asks).made)
         → Ends made end
     no_attributes at mid link file finds why end is (inl (o, (answers, gives))) made are =
         by (given (Err why) (getattr_result o) gives)
@@ -271,7 +271,7 @@ ends_of_jobs_have_causes_lem s J get before after out out' end (Found dialed at 
         (tells_finds get.uid get.gid get.export get.path at mid (Ok file) finds).made get.uid get.gid file mid hangs.source hangs.sink out.taken out'.taken (Err end) reads
     by (NoAttributes link why gets is same none) = λ answered.
         let made = (tells_finds get.uid get.gid get.export get.path at mid (Ok file) finds).made
-        ++ (asked_exchanges getattr_result (getattr_call get.uid get.gid file) (bytes_at (link_of mid)) (bytes_at link) (link_of mid).requester link.requester (Err why) gets.asks).made in
+        ++ (asked_exchanges getattr_result (getattr_call get.uid get.gid file) (view_at (link_of mid)) (view_at link) (Err why) gets.asks).made in
         no_attributes s J get.uid get.gid ids names bytes from h sane get.export get.path names_are keep at mid link file finds why end is gets.asks (made ++ [])
         (answered_in_all s J (answered.used 0) from made answered.alone)
     by (Shared link outcome attributes gets shared) = λ answered.

@@ -12,7 +12,6 @@ use Rattle.nr_nfs_res.specs.Readdir.{ReaddirOk}
 use Rattle.nr_reduce.specs.declared.call.Call.{Call}
 use Rattle.nr_reduce.specs.declared.call.Outcome.{Outcome}
 use Rattle.nr_reduce.specs.declared.mark.Entry.{Entry}
-use Rattle.nr_requester.specs.RequesterState.{RequesterSide}
 use Rattle.nr_tree.specs.Sane.{IsSane}
 use Rattle.nr_ops_list.specs.Readdir.{cookie_verifier, readdir_reply}
 use Rattle.nr_plain.specs.Journal.{tree_at}
@@ -23,7 +22,7 @@ use Rattle.nr_client.specs.Following.{EndsWith, MakesCalls, Next, go_on}
 use Rattle.nr_client.specs.Following.Next.{Calls, Returns}
 use Rattle.nr_client.specs.Listing.{entries_max, last_cookie, list_from, list_next, listed_after, readdir_call}
 use Rattle.nr_client.specs.Requests.{machine}
-use Rattle.nr_client.specs.Transfers.{LinkBytes}
+use Rattle.nr_client.specs.Views.{LinkView}
 use Rattle.nr_commands.specs.Printed.{names_text}
 use Rattle.nr_commands.specs.Sessions.{Requests, Then}
 use Rattle.nr_commands.specs.Sessions.{Text as Shows}
@@ -54,38 +53,38 @@ module _ (s : Setup) (J : List Entry) (uid gid : ℕ) (ids : AreIds uid gid) (sa
   user = caller_of (creds.Sys 0 machine uid gid [])
 
   -- what remains of the request after a READDIR
-  abbrev Remains : (place : ℕ) (outcomes : List Outcome) (c m b' : LinkBytes) (i k h' : RequesterSide) (result : Result (List (List ℕ)) ClientEnd) (rest : List Exchange) → Result Names ClientEnd → Type 0
-  Remains place outcomes c m b' i k h' result rest x =
-      (more : MakesCalls (λ later. go_on x (λ l. list_from uid gid dir l later)) outcomes c m i k) × ((ends : EndsWith (go_on x (λ l. list_from uid gid dir l outcomes)) m b' k h' result)
-      × AreAnsweredFrom s J place [] (exchanged (λ later. go_on x (λ l. list_from uid gid dir l later)) outcomes c m b' i k h' result more ends rest))
+  abbrev Remains : (place : ℕ) (outcomes : List Outcome) (c m b' : LinkView) (result : Result (List (List ℕ)) ClientEnd) (rest : List Exchange) → Result Names ClientEnd → Type 0
+  Remains place outcomes c m b' result rest x =
+      (more : MakesCalls (λ later. go_on x (λ l. list_from uid gid dir l later)) outcomes c m) × ((ends : EndsWith (go_on x (λ l. list_from uid gid dir l outcomes)) m b' result)
+      × AreAnsweredFrom s J place [] (exchanged (λ later. go_on x (λ l. list_from uid gid dir l later)) outcomes c m b' result more ends rest))
 
   -- all is listed: no call follows
-  finished : (outcomes : List Outcome) (names : List (List ℕ)) (cookie place : ℕ) (c m b' : LinkBytes) (i k h' : RequesterSide) (result : Result (List (List ℕ)) ClientEnd) (rest : List Exchange)
-      → Remains place outcomes c m b' i k h' result rest (Ok (record { names = names; cookie = cookie; verifier = cookie_verifier; eof = true })) → IsUnanswered result ⊎ ((result ≡ Ok names) × AreAnsweredFrom s J place [] rest)
-  finished [] names cookie place c m b' i k h' result rest (made, (ends, are)) = by (given result (Ok names) ends.0)
+  finished : (outcomes : List Outcome) (names : List (List ℕ)) (cookie place : ℕ) (c m b' : LinkView) (result : Result (List (List ℕ)) ClientEnd) (rest : List Exchange)
+      → Remains place outcomes c m b' result rest (Ok (record { names = names; cookie = cookie; verifier = cookie_verifier; eof = true })) → IsUnanswered result ⊎ ((result ≡ Ok names) × AreAnsweredFrom s J place [] rest)
+  finished [] names cookie place c m b' result rest (made, (ends, are)) = by (given result (Ok names) ends.0)
     where
       by : IsUnanswered result ⊎ (result ≡ Ok names) → IsUnanswered result ⊎ ((result ≡ Ok names) × AreAnsweredFrom s J place [] rest)
       by (inl un) = inl un
       by (inr is) = inr (is, are)
-  finished (o ∷ outcomes) names cookie place c m b' i k h' result rest ((call, d, j, (is, more)), (ends, are)) =
+  finished (o ∷ outcomes) names cookie place c m b' result rest ((call, d, (is, more)), (ends, are)) =
       absurd (let wrong : ◌≡◌ {A = Next (List (List ℕ))} (Returns (Ok names)) (Calls call) = is in cc)
 
-  listing : (outcomes : List Outcome) (names : List (List ℕ)) (cookie : ℕ) → cookie < 2 ^ 64 → (b m b' : LinkBytes) (h k h' : RequesterSide) (result : Result (List (List ℕ)) ClientEnd)
-      (made : MakesCalls (list_from uid gid dir (open_at names cookie)) outcomes b m h k) (ends : EndsWith (list_from uid gid dir (open_at names cookie) outcomes) m b' k h' result) (from : ℕ) (rest : List Exchange)
-      → AreAnsweredFrom s J from [] (exchanged (list_from uid gid dir (open_at names cookie)) outcomes b m b' h k h' result made ends rest) → IsUnanswered result ⊎ IsListing s J user dir names cookie from result rest
-  listing [] names cookie fits b m b' h k h' result made (end, (is, un)) from rest are = inl (no_answer (readdir_call uid gid dir cookie cookie_verifier) m b' k h' end result is un)
-  listing (o ∷ outcomes) names cookie fits b m b' h k h' result (call, c, i, (is, (answers, more))) ends from rest (place, (a, (low, later))) =
+  listing : (outcomes : List Outcome) (names : List (List ℕ)) (cookie : ℕ) → cookie < 2 ^ 64 → (b m b' : LinkView) (result : Result (List (List ℕ)) ClientEnd)
+      (made : MakesCalls (list_from uid gid dir (open_at names cookie)) outcomes b m) (ends : EndsWith (list_from uid gid dir (open_at names cookie) outcomes) m b' result) (from : ℕ) (rest : List Exchange)
+      → AreAnsweredFrom s J from [] (exchanged (list_from uid gid dir (open_at names cookie)) outcomes b m b' result made ends rest) → IsUnanswered result ⊎ IsListing s J user dir names cookie from result rest
+  listing [] names cookie fits b m b' result made (end, (is, un)) from rest are = inl (no_answer (readdir_call uid gid dir cookie cookie_verifier) m b' end result is un)
+  listing (o ∷ outcomes) names cookie fits b m b' result (call, c, (is, (answers, more))) ends from rest (place, (a, (low, later))) =
       by (readdir_reply (tree_at s J place) user (readdir_of dir cookie)) refl
-      (subst (Remains place outcomes c m b' i k h' result rest) there.0.is (more, (ends, subst (λ (x : ℕ). AreAnsweredFrom s J x [] (exchanged (λ later. go_on (listed_after (open_at names cookie) o) (λ l. list_from uid gid dir l later)) outcomes c m b' i k h' result more ends rest)) there.1 at.1)))
-      (λ names' cookie' fits' (more', (ends', are')). listing outcomes names' cookie' fits' c m b' i k h' result more' ends' place rest are')
+      (subst (Remains place outcomes c m b' result rest) there.0.is (more, (ends, subst (λ (x : ℕ). AreAnsweredFrom s J x [] (exchanged (λ later. go_on (listed_after (open_at names cookie) o) (λ l. list_from uid gid dir l later)) outcomes c m b' result more ends rest)) there.1 at.1)))
+      (λ names' cookie' fits' (more', (ends', are')). listing outcomes names' cookie' fits' c m b' result more' ends' place rest are')
     where
       same : readdir_call uid gid dir cookie cookie_verifier ≡ call
       same = let calls : ◌≡◌ {A = Next (List (List ℕ))} (Calls (readdir_call uid gid dir cookie cookie_verifier)) (Calls call) = is in cc
 
       at : (x : IsAnsweredAt s J (readdir_call uid gid dir cookie cookie_verifier) o place) × AreAnsweredFrom s J (place_after s J (readdir_call uid gid dir cookie cookie_verifier) o place x) []
-          (exchanged (λ later. go_on (listed_after (open_at names cookie) o) (λ l. list_from uid gid dir l later)) outcomes c m b' i k h' result more ends rest)
+          (exchanged (λ later. go_on (listed_after (open_at names cookie) o) (λ l. list_from uid gid dir l later)) outcomes c m b' result more ends rest)
       at = subst (λ (y : Call). (x : IsAnsweredAt s J y o place) × AreAnsweredFrom s J (place_after s J y o place x) []
-          (exchanged (λ later. go_on (listed_after (open_at names cookie) o) (λ l. list_from uid gid dir l later)) outcomes c m b' i k h' result more ends rest)) (sym same) (a, later)
+          (exchanged (λ later. go_on (listed_after (open_at names cookie) o) (λ l. list_from uid gid dir l later)) outcomes c m b' result more ends rest)) (sym same) (a, later)
 
       there : IsListedAt s J user names cookie dir o place × (place_after s J (readdir_call uid gid dir cookie cookie_verifier) o place at.0 ≡ place)
       there = listed_there s J uid gid ids sane fit names cookie dir o place (omega (arith, long)) fits at.0
@@ -124,29 +123,29 @@ module _ (s : Setup) (J : List Entry) (uid gid : ℕ) (ids : AreIds uid gid) (sa
           })
 
       by : (results : StatusUnion ReaddirOk (Option Attributes) Status) → readdir_reply (tree_at s J place) user (readdir_of dir cookie) ≡ results
-          → Remains place outcomes c m b' i k h' result rest (after_results names cookie results)
-          → ((names' : List (List ℕ)) (cookie' : ℕ) → cookie' < 2 ^ 64 → Remains place outcomes c m b' i k h' result rest (Ok (open_at names' cookie')) → IsUnanswered result ⊎ IsListing s J user dir names' cookie' place result rest)
+          → Remains place outcomes c m b' result rest (after_results names cookie results)
+          → ((names' : List (List ℕ)) (cookie' : ℕ) → cookie' < 2 ^ 64 → Remains place outcomes c m b' result rest (Ok (open_at names' cookie')) → IsUnanswered result ⊎ IsListing s J user dir names' cookie' place result rest)
           → IsUnanswered result ⊎ IsListing s J user dir names cookie from result rest
       by (Failed status part) is (more', (ends', are')) rec =
           ended (Err (client.Nfs status)) (ap (λ (r : StatusUnion ReaddirOk (Option Attributes) Status). listed_by r names cookie (λ x y. None)) is)
-          (returned s J (Err (client.Nfs status)) outcomes c m b' i k h' result more' ends' place rest are')
+          (returned s J (Err (client.Nfs status)) outcomes c m b' result more' ends' place rest are')
       by (Done d) is remains rec = done (ltb entries_max (length (names ++ names_in d.entries))) d.eof refl refl remains
         where
           done : (many eof : Bool) → ltb entries_max (length (names ++ names_in d.entries)) ≡ many → d.eof ≡ eof
-              → Remains place outcomes c m b' i k h' result rest (cond many (Err (client.Budget entries_max))
+              → Remains place outcomes c m b' result rest (cond many (Err (client.Budget entries_max))
               (Ok (record { names = names ++ names_in d.entries; cookie = last_cookie cookie d.entries; verifier = cookie_verifier; eof = eof })))
               → IsUnanswered result ⊎ IsListing s J user dir names cookie from result rest
           done true eof above at_end (more', (ends', are')) =
               ended (Err (client.Budget entries_max))
               (ap (λ (r : StatusUnion ReaddirOk (Option Attributes) Status). listed_by r names cookie (λ x y. None)) is
               ∙ ap (λ (x : Bool). cond x (Some (Err (client.Budget entries_max))) (cond d.eof (Some (Ok (names ++ names_in d.entries))) None)) above)
-              (returned s J (Err (client.Budget entries_max)) outcomes c m b' i k h' result more' ends' place rest are')
+              (returned s J (Err (client.Budget entries_max)) outcomes c m b' result more' ends' place rest are')
           done false true within at_end remains' =
               ended (Ok (names ++ names_in d.entries))
               (ap (λ (r : StatusUnion ReaddirOk (Option Attributes) Status). listed_by r names cookie (λ x y. None)) is
               ∙ ap (λ (x : Bool). cond x (Some (Err (client.Budget entries_max))) (cond d.eof (Some (Ok (names ++ names_in d.entries))) None)) within
               ∙ ap (λ (x : Bool). cond x (Some (Ok (names ++ names_in d.entries))) None) at_end)
-              (finished outcomes (names ++ names_in d.entries) (last_cookie cookie d.entries) place c m b' i k h' result rest remains')
+              (finished outcomes (names ++ names_in d.entries) (last_cookie cookie d.entries) place c m b' result rest remains')
           done false false within goes remains' =
               goes_on (names ++ names_in d.entries) (last_cookie cookie d.entries)
               (λ calls readdirs.
@@ -217,11 +216,11 @@ lists_are_of_the_trees_lem s J uid gid export path before after result (inl (dir
     goes : (p : Found) (is : Then (Requests (list_next uid gid dir)) (λ names. Shows (names_text names)) mid after result) → AreAnsweredFrom s J p.last [] (inner is) → Goal
     goes p (inl (names, (m, (asks, (still, shows))))) later =
         on_names p names
-        (listing s J uid gid ids sane fit dir (long p) asks.0.outcomes [] 0 (omega arith) mid.bytes asks.0.between m.bytes mid.requester asks.0.side m.requester (Ok names) asks.0.made asks.0.ends p.last [] later)
+        (listing s J uid gid ids sane fit dir (long p) asks.0.outcomes [] 0 (omega arith) mid asks.0.between m (Ok names) asks.0.made asks.0.ends p.last [] later)
         (shown (names_text names) result shows)
     goes p (inr (end, (asks, same))) later =
         on_end p end same
-        (listing s J uid gid ids sane fit dir (long p) asks.0.outcomes [] 0 (omega arith) mid.bytes asks.0.between after.bytes mid.requester asks.0.side after.requester (Err end) asks.0.made asks.0.ends p.last []
+        (listing s J uid gid ids sane fit dir (long p) asks.0.outcomes [] 0 (omega arith) mid asks.0.between after (Err end) asks.0.made asks.0.ends p.last []
         (nothing_more s J p.last (tells_requests (list_next uid gid dir) mid after (Err end) asks).made later))
 
     by : IsUnanswered {A = List ℕ} (Ok dir) ⊎ Found → Goal

@@ -7,7 +7,6 @@ use Rattle.nr_nfs_base.specs.declared.mount_status.MountStatus.TheVariants as mo
 use Rattle.nr_reduce.specs.declared.call.Call.{Call}
 use Rattle.nr_reduce.specs.declared.call.Outcome.{Outcome}
 use Rattle.nr_reduce.specs.declared.mark.Entry.{Entry}
-use Rattle.nr_requester.specs.RequesterState.{RequesterSide}
 use Rattle.nr_tree.specs.Tree.{Tree}
 use Rattle.nr_plain.specs.Journal.{tree_at}
 use Rattle.nr_plain.specs.Setup.{Setup}
@@ -19,7 +18,7 @@ use Rattle.nr_client.specs.Following.{EndsWith, MakesCalls, Next, Unanswered}
 use Rattle.nr_client.specs.Following.Next.{Calls, Returns}
 use Rattle.nr_client.specs.Requests.{mnt_call, mnt_result}
 use Rattle.nr_client.specs.Results.{Gives}
-use Rattle.nr_client.specs.Transfers.{LinkBytes}
+use Rattle.nr_client.specs.Views.{LinkView}
 use Rattle.nr_commands.specs.Sessions.{Fails, Request, SessionAt}
 use Rattle.nr_service_laws.specs.Exchanges.{Exchange, end_exchanges, made_exchanges, tells_mounts, tells_request, within_exchanges}
 use Rattle.nr_reply_laws.specs.Replies.{AreIds}
@@ -66,9 +65,9 @@ same_end A {B} end result is un = subst (λ (r : Result B ClientEnd). IsUnanswer
     by (client.Budget count) u = u
     by client.Memory u = u
 
-pub no_answer : {A : Type 0} (call : Call) (b b' : LinkBytes) (h h' : RequesterSide) (end : ClientEnd) (result : Result A ClientEnd) → result ≡ Err end → Unanswered call b b' h h' end → IsUnanswered result
-no_answer {A} call b b' h h' end result is (inl (cause, (same, gone))) = subst (λ (r : Result A ClientEnd). IsUnanswered r) (sym (is ∙ ap (λ (e : ClientEnd). Err e) same)) tt
-no_answer {A} call b b' h h' end result is (inr (same, still)) = subst (λ (r : Result A ClientEnd). IsUnanswered r) (sym (is ∙ ap (λ (e : ClientEnd). Err e) same)) tt
+pub no_answer : {A : Type 0} (call : Call) (b b' : LinkView) (end : ClientEnd) (result : Result A ClientEnd) → result ≡ Err end → Unanswered call b b' end → IsUnanswered result
+no_answer {A} call b b' end result is (inl (cause, (same, gone))) = subst (λ (r : Result A ClientEnd). IsUnanswered r) (sym (is ∙ ap (λ (e : ClientEnd). Err e) same)) tt
+no_answer {A} call b b' end result is (inr (same, still)) = subst (λ (r : Result A ClientEnd). IsUnanswered r) (sym (is ∙ ap (λ (e : ClientEnd). Err e) same)) tt
 
 -- ---- Requests
 
@@ -102,21 +101,21 @@ asked {A} s J reads call t t' result (inr (inl (cause, (same, gone))), counts) f
 asked {A} s J reads call t t' result (inr (inr (same, still)), counts) from rest are = inl (subst (λ (r : Result A ClientEnd). IsUnanswered r) (sym same) tt)
 
 -- what a request exchanges, and then more
-abbrev pub exchanged : {A : Type 0} (request : List Outcome → Next A) (outcomes : List Outcome) (b m b' : LinkBytes) (h k h' : RequesterSide) (result : Result A ClientEnd) (made : MakesCalls request outcomes b m h k)
-    (ends : EndsWith (request outcomes) m b' k h' result) → List Exchange → List Exchange
-exchanged request outcomes b m b' h k h' result made ends rest = ((made_exchanges request outcomes b m h k made).made ++ (end_exchanges (request outcomes) m b' k h' result ends).made) ++ rest
+abbrev pub exchanged : {A : Type 0} (request : List Outcome → Next A) (outcomes : List Outcome) (b m b' : LinkView) (result : Result A ClientEnd) (made : MakesCalls request outcomes b m)
+    (ends : EndsWith (request outcomes) m b' result) → List Exchange → List Exchange
+exchanged request outcomes b m b' result made ends rest = ((made_exchanges request outcomes b m made).made ++ (end_exchanges (request outcomes) m b' result ends).made) ++ rest
 
 -- a request that makes no call
-pub returned : {A : Type 0} (s : Setup) (J : List Entry) (r : Result A ClientEnd) (outcomes : List Outcome) (b m b' : LinkBytes) (h k h' : RequesterSide) (result : Result A ClientEnd)
-    (made : MakesCalls (λ later. Returns r) outcomes b m h k) (ends : EndsWith (Returns r) m b' k h' result) (from : ℕ) (rest : List Exchange)
-    → AreAnsweredFrom s J from [] (((made_exchanges (λ later. Returns r) outcomes b m h k made).made ++ (end_exchanges (Returns r) m b' k h' result ends).made) ++ rest)
+pub returned : {A : Type 0} (s : Setup) (J : List Entry) (r : Result A ClientEnd) (outcomes : List Outcome) (b m b' : LinkView) (result : Result A ClientEnd)
+    (made : MakesCalls (λ later. Returns r) outcomes b m) (ends : EndsWith (Returns r) m b' result) (from : ℕ) (rest : List Exchange)
+    → AreAnsweredFrom s J from [] (((made_exchanges (λ later. Returns r) outcomes b m made).made ++ (end_exchanges (Returns r) m b' result ends).made) ++ rest)
     → IsUnanswered result ⊎ ((result ≡ r) × AreAnsweredFrom s J from [] rest)
-returned {A} s J r [] b m b' h k h' result made ends from rest are = by (given result r ends.0)
+returned {A} s J r [] b m b' result made ends from rest are = by (given result r ends.0)
   where
     by : IsUnanswered result ⊎ (result ≡ r) → IsUnanswered result ⊎ ((result ≡ r) × AreAnsweredFrom s J from [] rest)
     by (inl un) = inl un
     by (inr same) = inr (same, are)
-returned {A} s J r (o ∷ outcomes) b m b' h k h' result (call, c, i, (is, more)) ends from rest are = absurd (let wrong : Returns r ≡ Calls call = is in cc)
+returned {A} s J r (o ∷ outcomes) b m b' result (call, c, (is, more)) ends from rest are = absurd (let wrong : Returns r ≡ Calls call = is in cc)
 
 -- ---- MNT
 

@@ -8,7 +8,6 @@ use Rattle.nr_nfs_base.specs.declared.caller.Caller.{Caller}
 use Rattle.nr_reduce.specs.declared.call.Call.{Call}
 use Rattle.nr_reduce.specs.declared.call.Outcome.{Outcome}
 use Rattle.nr_reduce.specs.declared.mark.Entry.{Entry}
-use Rattle.nr_requester.specs.RequesterState.{RequesterSide}
 use Rattle.nr_tree.specs.Tree.{Tree}
 use Rattle.nr_plain.specs.Journal.{tree_at}
 use Rattle.nr_plain.specs.Setup.{Setup, caller_of}
@@ -19,9 +18,9 @@ use Rattle.nr_client.specs.Following.{EndsWith, MakesCalls, Next, asking, go_on}
 use Rattle.nr_client.specs.Following.Next.{Calls, Returns}
 use Rattle.nr_client.specs.Paths.{path_names}
 use Rattle.nr_client.specs.Requests.{lookup_call, machine}
-use Rattle.nr_client.specs.Transfers.{LinkBytes}
 use Rattle.nr_client.specs.Walking.{object_result, parent_from, parent_next, walk_from, walk_next}
 use Rattle.nr_client.specs.Walking.{parent_along as parent_request}
+use Rattle.nr_client.specs.Views.{LinkView}
 use Rattle.nr_commands.specs.Commands.{Finds, FindsParent, Mounts}
 use Rattle.nr_commands.specs.Sessions.{Requests, SessionAt, Then}
 use Rattle.nr_service_laws.specs.Exchanges.{Exchange, tells_finds, tells_finds_parent, tells_mounts, tells_requests, tells_then}
@@ -59,12 +58,12 @@ module _ (s : Setup) (J : List Entry) (uid gid : ℕ) (ids : AreIds uid gid) whe
   -- a request that is answered from a place on with what the trees give
   abbrev Follows : {A : Type 0} → (List Outcome → Next A) → ((trees : ℕ → Tree) → Result A ClientEnd) → Type 0
   Follows {A} request finds =
-      (outcomes : List Outcome) (b m b' : LinkBytes) (h k h' : RequesterSide) (result : Result A ClientEnd) (made : MakesCalls request outcomes b m h k) (ends : EndsWith (request outcomes) m b' k h' result) (from : ℕ) (rest : List Exchange)
-      → AreAnsweredFrom s J from [] (exchanged request outcomes b m b' h k h' result made ends rest) → Placed finds from result rest
+      (outcomes : List Outcome) (b m b' : LinkView) (result : Result A ClientEnd) (made : MakesCalls request outcomes b m) (ends : EndsWith (request outcomes) m b' result) (from : ℕ) (rest : List Exchange)
+      → AreAnsweredFrom s J from [] (exchanged request outcomes b m b' result made ends rest) → Placed finds from result rest
 
   -- a request that makes no call
   ended : {A : Type 0} (r : Result A ClientEnd) → Follows (λ later. Returns r) (λ trees. r)
-  ended {A} r outcomes b m b' h k h' result made ends from rest are = by (returned s J r outcomes b m b' h k h' result made ends from rest are)
+  ended {A} r outcomes b m b' result made ends from rest are = by (returned s J r outcomes b m b' result made ends from rest are)
     where
       by : IsUnanswered result ⊎ ((result ≡ r) × AreAnsweredFrom s J from [] rest) → IsUnanswered result ⊎ IsPlaced s J (λ trees. r) from result rest
       by (inl un) = inl un
@@ -74,23 +73,23 @@ module _ (s : Setup) (J : List Entry) (uid gid : ℕ) (ids : AreIds uid gid) whe
   step : {A : Type 0} (dir name : List ℕ) (next : List ℕ → List Outcome → Next A) (finds : List ℕ → (trees : ℕ → Tree) → Result A ClientEnd) → length dir ≡ 8 → length name ≤ name_length_max
       → ((g : List ℕ) → length g ≡ 8 → Follows (next g) (finds g))
       → Follows (asking (lookup_call uid gid dir name) object_result next) (λ trees. on_value (object_in (trees 0) user dir name) (λ object. finds object (λ i. trees (suc i))))
-  step {A} dir name next finds long short after [] b m b' h k h' result made (end, (is, un)) from rest are = inl (no_answer (lookup_call uid gid dir name) m b' k h' end result is un)
-  step {A} dir name next finds long short after (o ∷ outcomes) b m b' h k h' result (call, c, i, (is, (answers, more))) ends from rest (place, (a, (low, later))) =
+  step {A} dir name next finds long short after [] b m b' result made (end, (is, un)) from rest are = inl (no_answer (lookup_call uid gid dir name) m b' end result is un)
+  step {A} dir name next finds long short after (o ∷ outcomes) b m b' result (call, c, (is, (answers, more))) ends from rest (place, (a, (low, later))) =
       by (object_result o) refl more ends moved
     where
       same : lookup_call uid gid dir name ≡ call
       same = let calls : ◌≡◌ {A = Next A} (Calls (lookup_call uid gid dir name)) (Calls call) = is in cc
 
       at : (x : IsAnsweredAt s J (lookup_call uid gid dir name) o place) × AreAnsweredFrom s J (place_after s J (lookup_call uid gid dir name) o place x) []
-          (exchanged (λ later. go_on (object_result o) (λ object. next object later)) outcomes c m b' i k h' result more ends rest)
+          (exchanged (λ later. go_on (object_result o) (λ object. next object later)) outcomes c m b' result more ends rest)
       at = subst (λ (y : Call). (x : IsAnsweredAt s J y o place) × AreAnsweredFrom s J (place_after s J y o place x) []
-          (exchanged (λ later. go_on (object_result o) (λ object. next object later)) outcomes c m b' i k h' result more ends rest)) (sym same) (a, later)
+          (exchanged (λ later. go_on (object_result o) (λ object. next object later)) outcomes c m b' result more ends rest)) (sym same) (a, later)
 
       there : (object_result o ≡ object_in (tree_at s J place) user dir name) × (place_after s J (lookup_call uid gid dir name) o place at.0 ≡ place)
       there = object_there s J uid gid ids dir name o place (omega (arith, long)) short at.0
 
-      moved : AreAnsweredFrom s J place [] (exchanged (λ later. go_on (object_result o) (λ object. next object later)) outcomes c m b' i k h' result more ends rest)
-      moved = subst (λ (x : ℕ). AreAnsweredFrom s J x [] (exchanged (λ later. go_on (object_result o) (λ object. next object later)) outcomes c m b' i k h' result more ends rest)) there.1 at.1
+      moved : AreAnsweredFrom s J place [] (exchanged (λ later. go_on (object_result o) (λ object. next object later)) outcomes c m b' result more ends rest)
+      moved = subst (λ (x : ℕ). AreAnsweredFrom s J x [] (exchanged (λ later. go_on (object_result o) (λ object. next object later)) outcomes c m b' result more ends rest)) there.1 at.1
 
       refused : (end : ClientEnd) → object_result o ≡ Err end → Placed (λ trees. Err end) place result rest → Placed (λ trees. on_value (object_in (trees 0) user dir name) (λ object. finds object (λ i. trees (suc i)))) from result rest
       refused end found (inl gone) = inl gone
@@ -118,12 +117,12 @@ module _ (s : Setup) (J : List Entry) (uid gid : ℕ) (ids : AreIds uid gid) whe
             later = p.later;
           })
 
-      by : (r : Result (List ℕ) ClientEnd) → object_result o ≡ r → (more : MakesCalls (λ later. go_on r (λ object. next object later)) outcomes c m i k) → (ends : EndsWith (go_on r (λ object. next object outcomes)) m b' k h' result)
-          → AreAnsweredFrom s J place [] (exchanged (λ later. go_on r (λ object. next object later)) outcomes c m b' i k h' result more ends rest)
+      by : (r : Result (List ℕ) ClientEnd) → object_result o ≡ r → (more : MakesCalls (λ later. go_on r (λ object. next object later)) outcomes c m) → (ends : EndsWith (go_on r (λ object. next object outcomes)) m b' result)
+          → AreAnsweredFrom s J place [] (exchanged (λ later. go_on r (λ object. next object later)) outcomes c m b' result more ends rest)
           → Placed (λ trees. on_value (object_in (trees 0) user dir name) (λ object. finds object (λ i. trees (suc i)))) from result rest
-      by (Err end) found more ends are = refused end found (ended (Err end) outcomes c m b' i k h' result more ends place rest are)
+      by (Err end) found more ends are = refused end found (ended (Err end) outcomes c m b' result more ends place rest are)
       by (Ok g) found more ends are =
-          gone_on g found (after g (object_found (tree_at s J place) user dir name g (sym there.0 ∙ found)).1 outcomes c m b' i k h' result more ends place rest are)
+          gone_on g found (after g (object_found (tree_at s J place) user dir name g (sym there.0 ∙ found)).1 outcomes c m b' result more ends place rest are)
 
   -- ---- A path
 
@@ -181,7 +180,7 @@ module _ (s : Setup) (J : List Entry) (uid gid : ℕ) (ids : AreIds uid gid) whe
       by (inl un) = absurd un
       by (inr m) =
           let long = root_long (nat_lt mount_path_max (length export)) (pointwise nat_eq export s.parameters.export) root m.is in
-          place_on m (each root long asks.0.outcomes mid.bytes asks.0.between t'.bytes mid.requester asks.0.side t'.requester result asks.0.made asks.0.ends m.place rest m.later)
+          place_on m (each root long asks.0.outcomes mid asks.0.between t' result asks.0.made asks.0.ends m.place rest m.later)
   from_root {A} export request finds each t t' result (inr (end, (mounts, same))) from rest are = by (mounted s J uid gid ids export t t' (Err end) mounts from rest are)
     where
       by : IsUnanswered {A = List ℕ} (Err end) ⊎ IsMounted s J export from (Err end) rest

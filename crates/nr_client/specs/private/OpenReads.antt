@@ -13,7 +13,7 @@ use Rattle.nr_client.specs.Reading.{EndsReading, LeadsBy, OpenRead, ReadingAt, f
 use Rattle.nr_client.specs.Reading.FileRead.{SizeKnown}
 use Rattle.nr_client.specs.Results.{Gives}
 use Rattle.nr_client.specs.Steps.{HasCreditLeft, LacksCredit}
-use Rattle.nr_client.specs.Transfers.{LinkBytes}
+use Rattle.nr_client.specs.Views.{LinkView}
 
 -- calls of all these xids, which differ, are open
 abbrev pub AreOpen : RequesterState → List ℕ → Type 0
@@ -52,31 +52,31 @@ abbrev pub IsFull : (size next : ℕ) → List ℕ → RequesterSide → Type 0
 IsFull size next xids h = (size ≤ next) ⊎ ((0 < length xids) × (LacksCredit h ⊎ (reads_max ≤ length xids)))
 
 -- the size is known, these bytes came and were written, and READs are outstanding
-pub record ReadSoFar (uid gid : ℕ) (file : List ℕ) (size : ℕ) (first : ReadingAt) (taken : Option (List ℕ)) (at from : ℕ) (xids : List ℕ) (b : LinkBytes) (h : RequesterSide) (taken' : Option (List ℕ)) : Type 0 where
+pub record ReadSoFar (uid gid : ℕ) (file : List ℕ) (size : ℕ) (first : ReadingAt) (taken : Option (List ℕ)) (at from : ℕ) (xids : List ℕ) (b : LinkView) (taken' : Option (List ℕ)) : Type 0 where
   pub between : List ReadingAt
   pub outcomes : List Outcome
   pub bytes : List ℕ
-  pub made : LeadsBy uid gid file first between (record { outcomes = outcomes; waiting = reads_from uid gid file size from xids; bytes = b; side = h })
+  pub made : LeadsBy uid gid file first between (record { outcomes = outcomes; waiting = reads_from uid gid file size from xids; link = b })
   pub state : file_read outcomes ≡ SizeKnown size at bytes
   pub appends : Appends taken taken' bytes
 
 -- it goes on so
-abbrev pub ReadsOn : (uid gid : ℕ) → (file : List ℕ) → (size at from : ℕ) → List ℕ → (at' from' : ℕ) → List ℕ → (b b' : LinkBytes) (h h' : RequesterSide) → (t t' : Option (List ℕ)) → Type 0
-ReadsOn uid gid file size at from xids at' from' xids' b b' h h' t t' =
-    (first : ReadingAt) (taken : Option (List ℕ)) → ReadSoFar uid gid file size first taken at from xids b h t → ReadSoFar uid gid file size first taken at' from' xids' b' h' t'
+abbrev pub ReadsOn : (uid gid : ℕ) → (file : List ℕ) → (size at from : ℕ) → List ℕ → (at' from' : ℕ) → List ℕ → (b b' : LinkView) → (t t' : Option (List ℕ)) → Type 0
+ReadsOn uid gid file size at from xids at' from' xids' b b' t t' =
+    (first : ReadingAt) (taken : Option (List ℕ)) → ReadSoFar uid gid file size first taken at from xids b t → ReadSoFar uid gid file size first taken at' from' xids' b' t'
 
 -- it has ended, and READs under these xids are still outstanding
-pub record HasEnded (uid gid : ℕ) (file : List ℕ) (first : ReadingAt) (taken : Option (List ℕ)) (xids : List ℕ) (b : LinkBytes) (h : RequesterSide) (taken' : Option (List ℕ)) (given : Result (Unit {0}) ClientEnd) : Type 0 where
+pub record HasEnded (uid gid : ℕ) (file : List ℕ) (first : ReadingAt) (taken : Option (List ℕ)) (xids : List ℕ) (b : LinkView) (taken' : Option (List ℕ)) (given : Result (Unit {0}) ClientEnd) : Type 0 where
   pub between : List ReadingAt
   pub last : ReadingAt
   pub made : LeadsBy uid gid file first between last
   pub left : List OpenRead
   pub same : xids_of left ≡ xids
-  pub ends : EndsReading uid gid file last left b h taken taken' given
+  pub ends : EndsReading uid gid file last left b taken taken' given
 
-abbrev pub EndsSo : (uid gid : ℕ) → (file : List ℕ) → (size at from : ℕ) → (xids xids' : List ℕ) → (b b' : LinkBytes) (h h' : RequesterSide) → (t t' : Option (List ℕ)) → Result (Unit {0}) ClientEnd → Type 0
-EndsSo uid gid file size at from xids xids' b b' h h' t t' given =
-    (first : ReadingAt) (taken : Option (List ℕ)) → ReadSoFar uid gid file size first taken at from xids b h t → HasEnded uid gid file first taken xids' b' h' t' given
+abbrev pub EndsSo : (uid gid : ℕ) → (file : List ℕ) → (size at from : ℕ) → (xids xids' : List ℕ) → (b b' : LinkView) → (t t' : Option (List ℕ)) → Result (Unit {0}) ClientEnd → Type 0
+EndsSo uid gid file size at from xids xids' b b' t t' given =
+    (first : ReadingAt) (taken : Option (List ℕ)) → ReadSoFar uid gid file size first taken at from xids b t → HasEnded uid gid file first taken xids' b' t' given
 
 -- The data of a reply to a READ of `count` bytes were written, and the next READ begins so many bytes further; or there are none, or the output
 -- failed.

@@ -5,15 +5,11 @@ use Rattle.nr_client.proofs.asking.ask_nfs.Goals as goal
 
 pub returns-in-Err-clause-asks : goal.returns-in-Err-clause-asks
 returns-in-Err-clause-asks g c asked is =
-    asks_by_end _ (nfs_reads g.D.Xdr.codec g.F.Xdr.codec) asked (g.L.Calls.at c.args.link.now).bytes
-    (g.L.Calls.at c.outcome_of.new.link).bytes
-    (g.L.Calls.at c.args.link.now).requester (g.L.Calls.at c.outcome_of.new.link).requester c.in-Err.end (c.in-Err.ensures.err asked is)
+    asks_by_end _ (nfs_reads g.D.Xdr.codec g.F.Xdr.codec) asked (g.L.Calls.at c.args.link.now) (g.L.Calls.at c.outcome_of.new.link) c.in-Err.end (c.in-Err.ensures.err asked is)
 
 pub returns-clause-asks : goal.returns-clause-asks
 returns-clause-asks g c asked is =
-    asks_by_answer (nfs_reads g.D.Xdr.codec g.F.Xdr.codec) asked (g.L.Calls.at c.args.link.now).bytes
-    (g.L.Calls.at c.outcome_of.new.link).bytes
-    (g.L.Calls.at c.args.link.now).requester (g.L.Calls.at c.outcome_of.new.link).requester c.in-Ok.outcome c.nfs_results.result (c.in-Ok.ensures.ok asked is) c.nfs_results.ensures.gives
+    asks_by_answer (nfs_reads g.D.Xdr.codec g.F.Xdr.codec) asked (g.L.Calls.at c.args.link.now) (g.L.Calls.at c.outcome_of.new.link) c.in-Ok.outcome c.nfs_results.result (c.in-Ok.ensures.ok asked is) c.nfs_results.ensures.gives
 
 pub returns-clause-source_faults : goal.returns-clause-source_faults
 returns-clause-source_faults g c = no_source_fault c.nfs_results.result (g.L.Calls.at c.args.link.now).source_faults (g.L.Calls.at c.outcome_of.new.link).source_faults c.nfs_results.ensures.of_reply c.in-Ok.ensures.source_faults

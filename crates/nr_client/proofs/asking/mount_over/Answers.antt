@@ -10,15 +10,11 @@ outcome_of-requires g c = writable c.mnt_call.result mount_program mount_version
 
 pub returns-in-Err-clause-asks : goal.returns-in-Err-clause-asks
 returns-in-Err-clause-asks g c =
-    asks_by_end (List ℕ) mnt_result (mnt_call c.args.uid c.args.gid c.args.export.now) (g.L.Calls.at c.args.link.now).bytes
-    (g.L.Calls.at c.outcome_of.new.link).bytes
-    (g.L.Calls.at c.args.link.now).requester (g.L.Calls.at c.outcome_of.new.link).requester c.in-Err.end (c.in-Err.ensures.err _ c.mnt_call.ensures)
+    asks_by_end (List ℕ) mnt_result (mnt_call c.args.uid c.args.gid c.args.export.now) (g.L.Calls.at c.args.link.now) (g.L.Calls.at c.outcome_of.new.link) c.in-Err.end (c.in-Err.ensures.err _ c.mnt_call.ensures)
 
 pub returns-clause-asks : goal.returns-clause-asks
 returns-clause-asks g c =
-    asks_by_answer mnt_result (mnt_call c.args.uid c.args.gid c.args.export.now) (g.L.Calls.at c.args.link.now).bytes
-    (g.L.Calls.at c.outcome_of.new.link).bytes
-    (g.L.Calls.at c.args.link.now).requester (g.L.Calls.at c.outcome_of.new.link).requester c.in-Ok.outcome c.handle_in.result (c.in-Ok.ensures.ok _ c.mnt_call.ensures) c.handle_in.ensures.gives
+    asks_by_answer mnt_result (mnt_call c.args.uid c.args.gid c.args.export.now) (g.L.Calls.at c.args.link.now) (g.L.Calls.at c.outcome_of.new.link) c.in-Ok.outcome c.handle_in.result (c.in-Ok.ensures.ok _ c.mnt_call.ensures) c.handle_in.ensures.gives
 
 pub returns-clause-source_faults : goal.returns-clause-source_faults
 returns-clause-source_faults g c = no_source_fault c.handle_in.result (g.L.Calls.at c.args.link.now).source_faults (g.L.Calls.at c.outcome_of.new.link).source_faults c.handle_in.ensures.of_reply c.in-Ok.ensures.source_faults

@@ -9,8 +9,8 @@ invariant-loop-listed g l =
     (length l.listed.names ≤ entries_max)
     × ((g.L.Calls.at l.link).source_faults ≡ (g.L.Calls.at l.fn.link).source_faults)
     × ((g.L.Calls.at l.link).sink_faults ≡ (g.L.Calls.at l.fn.link).sink_faults)
-    × LeadsTo (list_next l.fn.uid l.fn.gid l.fn.dir) (g.L.Calls.at l.fn.link).bytes (g.L.Calls.at l.fn.link).requester
-    (list_from l.fn.uid l.fn.gid l.fn.dir l.listed) (g.L.Calls.at l.link).bytes (g.L.Calls.at l.link).requester
+    × LeadsTo (list_next l.fn.uid l.fn.gid l.fn.dir) (g.L.Calls.at l.fn.link)
+    (list_from l.fn.uid l.fn.gid l.fn.dir l.listed) (g.L.Calls.at l.link)
 
 abbrev pub decreases-loop-listed : goal.decreases-loop-listed
 decreases-loop-listed g l = calls_left l.listed

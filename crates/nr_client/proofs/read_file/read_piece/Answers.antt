@@ -29,8 +29,7 @@ returns-in-Ok-read_rest-clause-ok g c first taken so_far =
     let ends : c.args.at.now + piece_left c.args.file.now.size c.args.at.now ≡ c.read_rest.new.at = ap (λ (n : ℕ). c.args.at.now + n) (sym c.piece_left.ensures.is) ∙ sym c.in-Ok-read_rest.ensures.end in
     subst
     (λ (from : ℕ). ReadSoFar c.args.file.now.uid c.args.file.now.gid c.args.file.now.handle.now c.args.file.now.size first taken c.read_rest.new.at from c.take_oldest.new.tickets.items
-    (g.L.Calls.at c.read_rest.new.link).bytes
-    (g.L.Calls.at c.read_rest.new.link).requester (g.K.Sink.taken c.read_rest.new.out))
+    (g.L.Calls.at c.read_rest.new.link) (g.K.Sink.taken c.read_rest.new.out))
     ends
     (c.in-Ok-read_rest.ensures.ok (c.args.at.now + piece_left c.args.file.now.size c.args.at.now) c.take_oldest.new.tickets.items first taken
     (c.in-Ok-take_oldest.ensures.ok c.args.file.now.uid c.args.file.now.gid c.fill.new.next c.args.file.now.handle.now c.in-Ok.ensures.ahead c.in-Ok.ensures.full first taken

@@ -7,8 +7,6 @@ pub returns-clause-ends : goal.returns-clause-ends
 returns-clause-ends g c first taken so_far =
     let (ahead, sources, sinks, outs, on) = c.pieces.invariant in
     all_read c.args.file.now.uid c.args.file.now.gid c.args.file.now.handle.now c.args.file.now.size c.pieces.at c.pieces.at c.pieces.tickets.items first taken (g.K.Sink.taken c.pieces.out)
-    (g.L.Calls.at c.pieces.link).bytes
-    (g.L.Calls.at c.pieces.link).requester c.pieces-test.false
+    (g.L.Calls.at c.pieces.link) c.pieces-test.false
     (on first taken (subst (λ (l : List ℕ). ReadSoFar c.args.file.now.uid c.args.file.now.gid c.args.file.now.handle.now c.args.file.now.size first taken 0 0 l
-    (g.L.Calls.at c.args.link.now).bytes
-    (g.L.Calls.at c.args.link.now).requester (g.K.Sink.taken c.args.out.now)) (sym c.requires) so_far))
+    (g.L.Calls.at c.args.link.now) (g.K.Sink.taken c.args.out.now)) (sym c.requires) so_far))

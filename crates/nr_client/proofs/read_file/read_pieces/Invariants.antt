@@ -9,9 +9,7 @@ invariant-pieces g l =
     × ((g.L.Calls.at l.link).sink_faults ≡ (g.L.Calls.at l.initial.link).sink_faults)
     × (g.K.Sink.faults l.out ≡ g.K.Sink.faults l.initial.out)
     × ReadsOn l.file.uid l.file.gid l.file.handle.now l.file.size 0 0 l.initial.tickets.items l.at l.at l.tickets.items
-    (g.L.Calls.at l.initial.link).bytes
-    (g.L.Calls.at l.link).bytes
-    (g.L.Calls.at l.initial.link).requester (g.L.Calls.at l.link).requester (g.K.Sink.taken l.initial.out) (g.K.Sink.taken l.out)
+    (g.L.Calls.at l.initial.link) (g.L.Calls.at l.link) (g.K.Sink.taken l.initial.out) (g.K.Sink.taken l.out)
 
 abbrev pub decreases-pieces : goal.decreases-pieces
 decreases-pieces g l = l.file.size - l.at

@@ -11,9 +11,7 @@ invariant-rest g l =
     × ((g.L.Calls.at l.link).sink_faults ≡ (g.L.Calls.at l.initial.link).sink_faults)
     × (g.K.Sink.faults l.out ≡ g.K.Sink.faults l.initial.out)
     × ((from : ℕ) (xids : List ℕ) → ReadsOn l.file.uid l.file.gid l.file.handle.now l.file.size l.initial.at from xids l.at from xids
-    (g.L.Calls.at l.initial.link).bytes
-    (g.L.Calls.at l.link).bytes
-    (g.L.Calls.at l.initial.link).requester (g.L.Calls.at l.link).requester (g.K.Sink.taken l.initial.out) (g.K.Sink.taken l.out))
+    (g.L.Calls.at l.initial.link) (g.L.Calls.at l.link) (g.K.Sink.taken l.initial.out) (g.K.Sink.taken l.out))
 
 abbrev pub decreases-rest : goal.decreases-rest
 decreases-rest g l = l.end - l.at

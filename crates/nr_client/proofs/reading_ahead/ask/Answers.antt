@@ -8,14 +8,12 @@ use Rattle.nr_client.proofs.reading_ahead.ask.Goals as goal
 pub returns-in-Err-clause-err : goal.returns-in-Err-clause-err
 returns-in-Err-clause-err g c at t below ahead first taken so_far =
     out_before_from c.args.file.now.uid c.args.file.now.gid c.args.file.now.handle.now c.args.file.now.size at at c.args.tickets.now.items c.reserve.new.self.items first taken t
-    (g.L.Calls.at c.args.link.now).bytes
-    (g.L.Calls.at c.args.link.now).requester c.reserve.ensures.items so_far
+    (g.L.Calls.at c.args.link.now) c.reserve.ensures.items so_far
 
 pub returns-in-Err-read_call-clause-err : goal.returns-in-Err-read_call-clause-err
 returns-in-Err-read_call-clause-err g c at t below ahead first taken so_far =
     out_before_from c.args.file.now.uid c.args.file.now.gid c.args.file.now.handle.now c.args.file.now.size at at c.args.tickets.now.items c.reserve.new.self.items first taken t
-    (g.L.Calls.at c.args.link.now).bytes
-    (g.L.Calls.at c.args.link.now).requester c.reserve.ensures.items so_far
+    (g.L.Calls.at c.args.link.now) c.reserve.ensures.items so_far
 
 pub returns-in-Err-submit-clause-open : goal.returns-in-Err-submit-clause-open
 returns-in-Err-submit-clause-open g c =
@@ -25,9 +23,7 @@ returns-in-Err-submit-clause-open g c =
 pub returns-in-Err-submit-clause-err : goal.returns-in-Err-submit-clause-err
 returns-in-Err-submit-clause-err g c at t below ahead first taken so_far =
     not_submitted_from c.args.file.now.uid c.args.file.now.gid c.args.file.now.handle.now c.args.file.now.size at c.args.next.now c.piece_left-count.result c.args.tickets.now.items c.reserve.new.self.items c.in-Ok.call c.in-Err-submit.end first taken t
-    (g.L.Calls.at c.args.link.now).bytes
-    (g.L.Calls.at c.submit.new.self).bytes
-    (g.L.Calls.at c.args.link.now).requester (g.L.Calls.at c.submit.new.self).requester c.reserve.ensures.items c.in-Ok.ensures c.piece_left-count.ensures.is below ahead c.requires.may
+    (g.L.Calls.at c.args.link.now) (g.L.Calls.at c.submit.new.self) c.reserve.ensures.items c.in-Ok.ensures c.piece_left-count.ensures.is below ahead c.requires.may
     c.in-Err-submit.ensures.err c.in-Err-submit.ensures.cause so_far
 
 pub returns-clause-open : goal.returns-clause-open
@@ -49,6 +45,4 @@ returns-clause-ok g c at t below ahead first taken so_far =
     let all : c.push_reserved.new.self.items ≡ c.args.tickets.now.items ++ c.in-Ok-submit.ticket ∷ [] =
     c.push_reserved.ensures.items ∙ ap (λ (l : List ℕ). l ++ c.in-Ok-submit.ticket ∷ []) c.reserve.ensures.items in
     asked_from c.args.file.now.uid c.args.file.now.gid c.args.file.now.handle.now c.args.file.now.size at c.args.next.now c.piece_left-count.result c.args.tickets.now.items c.push_reserved.new.self.items c.in-Ok-submit.ticket c.in-Ok.call first taken t
-    (g.L.Calls.at c.args.link.now).bytes
-    (g.L.Calls.at c.submit.new.self).bytes
-    (g.L.Calls.at c.args.link.now).requester (g.L.Calls.at c.submit.new.self).requester all c.in-Ok.ensures c.piece_left-count.ensures.is below ahead c.requires.may c.in-Ok-submit.ensures.ok so_far
+    (g.L.Calls.at c.args.link.now) (g.L.Calls.at c.submit.new.self) all c.in-Ok.ensures c.piece_left-count.ensures.is below ahead c.requires.may c.in-Ok-submit.ensures.ok so_far

@@ -8,9 +8,7 @@ invariant-asked g l =
     × ((g.L.Calls.at l.link).source_faults ≡ (g.L.Calls.at l.initial.link).source_faults)
     × ((g.L.Calls.at l.link).sink_faults ≡ (g.L.Calls.at l.initial.link).sink_faults)
     × ((t : Option (List ℕ)) → ReadsOn l.file.uid l.file.gid l.file.handle.now l.file.size l.at l.at l.initial.tickets.items l.at l.at l.tickets.items
-    (g.L.Calls.at l.initial.link).bytes
-    (g.L.Calls.at l.link).bytes
-    (g.L.Calls.at l.initial.link).requester (g.L.Calls.at l.link).requester t t)
+    (g.L.Calls.at l.initial.link) (g.L.Calls.at l.link) t t)
 
 abbrev pub decreases-asked : goal.decreases-asked
 decreases-asked g l = l.file.size - l.next

@@ -19,22 +19,16 @@ returns-clause-open g c =
 pub returns-in-Err-clause-err : goal.returns-in-Err-clause-err
 returns-in-Err-clause-err g c uid gid next file ahead full first taken so_far =
     forgotten_from uid gid file c.args.size c.args.at.now next c.remove.result c.args.tickets.now.items c.remove.new.self.items c.in-Err.end first taken (g.K.Sink.taken c.args.out.now)
-    (g.L.Calls.at c.args.link.now).bytes
-    (g.L.Calls.at c.wait.new.self).bytes
-    (g.L.Calls.at c.args.link.now).requester (g.L.Calls.at c.wait.new.self).requester (front c.args.tickets.now.items c.remove.new.self.items c.remove.result c.requires.some c.remove.ensures.value c.remove.ensures.items) c.requires.below ahead full c.in-Err.ensures.err c.in-Err.ensures.cause so_far
+    (g.L.Calls.at c.args.link.now) (g.L.Calls.at c.wait.new.self) (front c.args.tickets.now.items c.remove.new.self.items c.remove.result c.requires.some c.remove.ensures.value c.remove.ensures.items) c.requires.below ahead full c.in-Err.ensures.err c.in-Err.ensures.cause so_far
 
 pub returns-in-Err-write_data-clause-err : goal.returns-in-Err-write_data-clause-err
 returns-in-Err-write_data-clause-err g c uid gid next file ahead full first taken so_far =
     fails_from uid gid file c.args.size c.args.at.now next c.piece_left-count.result c.remove.result c.args.tickets.now.items c.remove.new.self.items c.in-Ok.outcome c.in-Err-write_data.end first taken
     (g.K.Sink.taken c.args.out.now) (g.K.Sink.taken c.write_data.new.out)
-    (g.L.Calls.at c.args.link.now).bytes
-    (g.L.Calls.at c.wait.new.self).bytes
-    (g.L.Calls.at c.args.link.now).requester (g.L.Calls.at c.wait.new.self).requester (front c.args.tickets.now.items c.remove.new.self.items c.remove.result c.requires.some c.remove.ensures.value c.remove.ensures.items) c.requires.below ahead full c.piece_left-count.ensures.is c.in-Ok.ensures.ok c.in-Err-write_data.ensures.err so_far
+    (g.L.Calls.at c.args.link.now) (g.L.Calls.at c.wait.new.self) (front c.args.tickets.now.items c.remove.new.self.items c.remove.result c.requires.some c.remove.ensures.value c.remove.ensures.items) c.requires.below ahead full c.piece_left-count.ensures.is c.in-Ok.ensures.ok c.in-Err-write_data.ensures.err so_far
 
 pub returns-clause-ok : goal.returns-clause-ok
 returns-clause-ok g c uid gid next file ahead full first taken so_far =
     taken_from uid gid file c.args.size c.args.at.now _ next c.piece_left-count.result c.in-Ok-write_data.step c.remove.result c.args.tickets.now.items c.remove.new.self.items c.in-Ok.outcome first taken
     (g.K.Sink.taken c.args.out.now) (g.K.Sink.taken c.write_data.new.out)
-    (g.L.Calls.at c.args.link.now).bytes
-    (g.L.Calls.at c.wait.new.self).bytes
-    (g.L.Calls.at c.args.link.now).requester (g.L.Calls.at c.wait.new.self).requester (front c.args.tickets.now.items c.remove.new.self.items c.remove.result c.requires.some c.remove.ensures.value c.remove.ensures.items) c.requires.below ahead full c.piece_left-count.ensures.is refl c.in-Ok.ensures.ok c.in-Ok-write_data.ensures.ok so_far
+    (g.L.Calls.at c.args.link.now) (g.L.Calls.at c.wait.new.self) (front c.args.tickets.now.items c.remove.new.self.items c.remove.result c.requires.some c.remove.ensures.value c.remove.ensures.items) c.requires.below ahead full c.piece_left-count.ensures.is refl c.in-Ok.ensures.ok c.in-Ok-write_data.ensures.ok so_far

@@ -7,5 +7,5 @@ abbrev pub invariant-loop-name : goal.invariant-loop-name
 invariant-loop-name g l =
     ((g.L.Calls.at l.link).source_faults ≡ (g.L.Calls.at l.fn.link).source_faults)
     × ((g.L.Calls.at l.link).sink_faults ≡ (g.L.Calls.at l.fn.link).sink_faults)
-    × LeadsTo (walk_from l.fn.uid l.fn.gid l.fn.root l.names) (g.L.Calls.at l.fn.link).bytes (g.L.Calls.at l.fn.link).requester
-    (walk_from l.fn.uid l.fn.gid l.dir (drop l.name-index l.names)) (g.L.Calls.at l.link).bytes (g.L.Calls.at l.link).requester
+    × LeadsTo (walk_from l.fn.uid l.fn.gid l.fn.root l.names) (g.L.Calls.at l.fn.link)
+    (walk_from l.fn.uid l.fn.gid l.dir (drop l.name-index l.names)) (g.L.Calls.at l.link)

@@ -3,6 +3,7 @@ use Rattle.nr_requester.proofs.KeptOn.{answers_as_kept, done_keeps_on, drain_kee
 use Rattle.nr_requester.proofs.KeptState.{agrees_as_kept, answers_are_kept, counts_as_kept, end_as_kept, memory_as_kept, releases_as_kept}
 use Rattle.nr_requester.proofs.RevokedBytes.{buffers_are_kept}
 use Rattle.nr_requester.proofs.SameTerms.{feed_keeps_terms}
+use Rattle.nr_requester.proofs.OwnAlike.{alike_are_kept}
 use Rattle.nr_requester.proofs.laws.reopened_links_go_on.Goals as goal
 
 pub returns-clause-submit : goal.returns-clause-submit
@@ -58,3 +59,6 @@ returns-clause-releases c = releases_as_kept
 
 pub returns-clause-terms : goal.returns-clause-terms
 returns-clause-terms c = feed_keeps_terms
+
+pub returns-clause-alike : goal.returns-clause-alike
+returns-clause-alike c = alike_are_kept

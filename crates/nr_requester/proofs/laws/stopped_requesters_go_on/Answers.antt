@@ -1,6 +1,7 @@
 use Rattle.nr_requester.proofs.RevokedBytes.{buffers_stopped}
 use Rattle.nr_requester.proofs.StoppedLaw.{agrees_stopped, counts_stopped, first_stopped, memory_stopped, piece_stays_stopped}
 use Rattle.nr_requester.proofs.StopsOn.{done_stops_on, drain_stops_on, forget_stops_on, others_stop_on, piece_stops, refuses_stopped, revoke_stops_on}
+use Rattle.nr_requester.proofs.KeptState.{answers_stopped}
 use Rattle.nr_requester.proofs.laws.stopped_requesters_go_on.Goals as goal
 
 pub returns-clause-piece : goal.returns-clause-piece
@@ -41,3 +42,6 @@ returns-clause-buffers c = buffers_stopped
 
 pub returns-clause-first : goal.returns-clause-first
 returns-clause-first c = first_stopped
+
+pub returns-clause-answers : goal.returns-clause-answers
+returns-clause-answers c = answers_stopped
