@@ -313,11 +313,7 @@ module _ {I O D : Type 0} (link : I → ℕ) (left given : I → Option (List �
 module _ {I O C D : Type 0} (link : I → ℕ) (left given : I → Option (List ℕ)) (faults : I → ℕ) (ended : D → Option LinkLog) (dialer_faults : D → ℕ) where
   -- what a source and a dialer are after a history: since they were shared so
   pub record Reads (b : InitialSource I O C D) (source : Option I) (dialer : D) (read : ℕ) (h : List Entry) : Type 0 where
-<<<<<<< HEAD
     pub source_is : KeepsSourceOf link left given faults (is_some (tries_of h)) (is_some (ended b.dialer.value)) (shared_giving left given faults b.source.value) source read (present h)
-=======
-    pub source_is : KeepsSourceOf link left given faults (is_some (tries_of h)) (shared_giving left given faults b.source.value) source read (present h)
->>>>>>> origin/redial
     pub dialer_is : KeepsDialer ended dialer_faults (shared_giving left given faults b.source.value) b.dialer.value dialer (present h)
     pub open_link : is_some (tries_of h) ≡ true → HasOpenLink (ended b.dialer.value)
     pub read_is : read ≡ b.read + length (bytes_fed h)
@@ -335,13 +331,8 @@ module _ {I O C D : Type 0} (link : I → ℕ) (left given : I → Option (List 
   reads_turned b source dialer read h k r tries bytes part =
       let shared = shared_giving left given faults b.source.value in
       record {
-<<<<<<< HEAD
         source_is = subst (λ (x : Bool). KeepsSourceOf link left given faults x (is_some (ended b.dialer.value)) shared source read (present k)) (ap (λ (o : Option ℕ). is_some o) (sym tries))
             (source_same link left given faults (is_some (tries_of h)) (is_some (ended b.dialer.value)) shared source read (present h) (present k) part r.source_is);
-=======
-        source_is = subst (λ (x : Bool). KeepsSourceOf link left given faults x shared source read (present k)) (ap (λ (o : Option ℕ). is_some o) (sym tries))
-            (source_same link left given faults (is_some (tries_of h)) shared source read (present h) (present k) part r.source_is);
->>>>>>> origin/redial
         dialer_is = dialer_same ended dialer_faults shared b.dialer.value dialer (present h) (present k) part r.dialer_is;
         open_link = λ some. r.open_link (ap (λ (o : Option ℕ). is_some o) (sym tries) ∙ some);
         read_is = r.read_is ∙ ap (λ (l : List ℕ). b.read + length l) (sym bytes);
@@ -357,28 +348,17 @@ module _ {I O C D : Type 0} (link : I → ℕ) (left given : I → Option (List 
       let x = is_some (tries_of h) in
       let l = read_part (present h) in
       record {
-<<<<<<< HEAD
         source_is = subst (λ (z : Bool). KeepsSourceOf link left given faults z (is_some (ended b.dialer.value)) shared (Some source') read' (present k)) (ap (λ (o : Option ℕ). is_some o) (sym tries))
             (by_part link left given faults x (is_some (ended b.dialer.value)) shared (Some source') read' (present k) (present_after l (fed_entry out piece 0)) part (piece_of shared x out l goes (to_part link left given faults x (is_some (ended b.dialer.value)) shared (Some source) l.sink read (present h) r.source_is)));
-=======
-        source_is = subst (λ (z : Bool). KeepsSourceOf link left given faults z shared (Some source') read' (present k)) (ap (λ (o : Option ℕ). is_some o) (sym tries))
-            (by_part link left given faults x shared (Some source') read' (present k) (present_after l (fed_entry out piece 0)) part (piece_of shared x out l goes (to_part link left given faults x shared (Some source) l.sink read (present h) r.source_is)));
->>>>>>> origin/redial
         dialer_is = dialer_of ended dialer_faults shared b.dialer.value dialer (present k) (subst (λ (m : PresentLink). KeepsDialer ended dialer_faults shared b.dialer.value dialer m) (sym part)
             (dialer_piece shared out l goes (dialer_to ended dialer_faults shared b.dialer.value dialer (present h) r.dialer_is)));
         open_link = λ some. r.open_link (ap (λ (o : Option ℕ). is_some o) (sym tries) ∙ some);
         read_is = (let was = r.read_is in let len = ap length bytes ∙ length-append (bytes_fed h) piece in omega (arith, was, more, len));
         within = within;
       } where
-<<<<<<< HEAD
     piece_of : (shared : InitialGiving) (x o : Bool) (l : PresentLink) → l.stopped ≡ None → KeepsSourceOf link left given faults x (is_some (ended b.dialer.value)) shared (Some source) read l → KeepsSourceOf link left given faults x (is_some (ended b.dialer.value)) shared (Some source') read' (present_after l (fed_entry o piece 0))
     piece_of shared x true l none k = piece_if link left given faults x (is_some (ended b.dialer.value)) shared source source' l.sink read read' l piece true gave number same none k
     piece_of shared x false l none k = piece_if link left given faults x (is_some (ended b.dialer.value)) shared source source' l.sink read read' l piece false gave number same none k
-=======
-    piece_of : (shared : InitialGiving) (x o : Bool) (l : PresentLink) → l.stopped ≡ None → KeepsSourceOf link left given faults x shared (Some source) read l → KeepsSourceOf link left given faults x shared (Some source') read' (present_after l (fed_entry o piece 0))
-    piece_of shared x true l none k = piece_if link left given faults x shared source source' l.sink read read' l piece true gave number same none k
-    piece_of shared x false l none k = piece_if link left given faults x shared source source' l.sink read read' l piece false gave number same none k
->>>>>>> origin/redial
 
     dialer_piece : (shared : InitialGiving) (o : Bool) (l : PresentLink) → l.stopped ≡ None → KeepsDialer ended dialer_faults shared b.dialer.value dialer l → KeepsDialer ended dialer_faults shared b.dialer.value dialer (present_after l (fed_entry o piece 0))
     dialer_piece shared true l none k = dialer_stays ended dialer_faults shared b.dialer.value dialer l (present_after l (fed_entry true piece 0)) refl refl (λ e. none_some causes.DialFault (sym none ∙ e)) (none_dial true piece 0 l none) k
@@ -394,15 +374,9 @@ module _ {I O C D : Type 0} (link : I → ℕ) (left given : I → Option (List 
       let x = is_some (tries_of h) in
       let l = read_part (present h) in
       record {
-<<<<<<< HEAD
         source_is = subst (λ (z : Bool). KeepsSourceOf link left given faults z (is_some (ended b.dialer.value)) shared (Some source') read (present k)) (ap (λ (o : Option ℕ). is_some o) (sym tries))
             (by_part link left given faults x (is_some (ended b.dialer.value)) shared (Some source') read (present k) (present_after l (entries.Stopped cause 0)) part
             (stop_if link left given faults x (is_some (ended b.dialer.value)) shared source source' l.sink read l cause gave number rises same holds (to_part link left given faults x (is_some (ended b.dialer.value)) shared (Some source) l.sink read (present h) r.source_is)));
-=======
-        source_is = subst (λ (z : Bool). KeepsSourceOf link left given faults z shared (Some source') read (present k)) (ap (λ (o : Option ℕ). is_some o) (sym tries))
-            (by_part link left given faults x shared (Some source') read (present k) (present_after l (entries.Stopped cause 0)) part
-            (stop_if link left given faults x shared source source' l.sink read l cause gave number rises same holds (to_part link left given faults x shared (Some source) l.sink read (present h) r.source_is)));
->>>>>>> origin/redial
         dialer_is = dialer_of ended dialer_faults shared b.dialer.value dialer (present k) (subst (λ (m : PresentLink). KeepsDialer ended dialer_faults shared b.dialer.value dialer m) (sym part)
             (dialer_stays ended dialer_faults shared b.dialer.value dialer l (present_after l (entries.Stopped cause 0)) refl refl (λ e. none_some causes.DialFault (sym goes ∙ e)) (λ e. no_dial cause ends e) (dialer_to ended dialer_faults shared b.dialer.value dialer (present h) r.dialer_is)));
         open_link = λ some. r.open_link (ap (λ (o : Option ℕ). is_some o) (sym tries) ∙ some);
@@ -429,13 +403,8 @@ module _ {I O C D : Type 0} (link : I → ℕ) (left given : I → Option (List 
       let bytes : bytes_fed (h ++ e ∷ []) ≡ bytes_fed h = flat_map-append fed_by h (e ∷ []) ∙ append-nil (bytes_fed h) in
       let l = present h in
       record {
-<<<<<<< HEAD
         source_is = subst (λ (x : Bool). KeepsSourceOf link left given faults x (is_some (ended b.dialer.value)) shared source read (present (h ++ e ∷ []))) (ap (λ (o : Option ℕ). is_some o) (sym tries))
             (subst (λ (m : PresentLink). KeepsSourceOf link left given faults (is_some (tries_of h)) (is_some (ended b.dialer.value)) shared source read m) (sym now) (stays_if shared (is_some (tries_of h)) source l.sink r.source_is));
-=======
-        source_is = subst (λ (x : Bool). KeepsSourceOf link left given faults x shared source read (present (h ++ e ∷ []))) (ap (λ (o : Option ℕ). is_some o) (sym tries))
-            (subst (λ (m : PresentLink). KeepsSourceOf link left given faults (is_some (tries_of h)) shared source read m) (sym now) (stays_if shared (is_some (tries_of h)) source l.sink r.source_is));
->>>>>>> origin/redial
         dialer_is = subst (λ (m : PresentLink). KeepsDialer ended dialer_faults shared b.dialer.value dialer m) (sym now)
             (dialer_stays ended dialer_faults shared b.dialer.value dialer l (present_after l e) refl refl (lost_some l.write_failed l.stopped lost) (λ same. no_dial cause cannot same) r.dialer_is);
         open_link = λ some. r.open_link (ap (λ (o : Option ℕ). is_some o) (sym tries) ∙ some);
@@ -460,13 +429,8 @@ module _ {I O C D : Type 0} (link : I → ℕ) (left given : I → Option (List 
     holds causes.Memory n m o k end = absurd end
     holds causes.DialFault n m o k end = absurd end
 
-<<<<<<< HEAD
     stays_if : (shared : InitialGiving) (x : Bool) (o : Option I) (i : Option InitialSink) → KeepsSourceIf link left given faults x (is_some (ended b.dialer.value)) shared o i read (present h) → KeepsSourceIf link left given faults x (is_some (ended b.dialer.value)) shared o i read (present_after (present h) (entries.Stopped cause previous))
     stays_if shared x (Some source) i k = stop_if link left given faults x (is_some (ended b.dialer.value)) shared source source i read (present h) cause (HandsOut_nil (left source) (given source)) refl (omega arith) (λ no. refl) (holds cause (faults source) (faults source) (left source) read cannot) k
-=======
-    stays_if : (shared : InitialGiving) (x : Bool) (o : Option I) (i : Option InitialSink) → KeepsSourceIf link left given faults x shared o i read (present h) → KeepsSourceIf link left given faults x shared o i read (present_after (present h) (entries.Stopped cause previous))
-    stays_if shared x (Some source) i k = stop_if link left given faults x shared source source i read (present h) cause (HandsOut_nil (left source) (given source)) refl (omega arith) (λ no. refl) (holds cause (faults source) (faults source) (left source) read cannot) k
->>>>>>> origin/redial
     stays_if shared x None None k = absurd (lost_some (present h).write_failed (present h).stopped lost k)
     stays_if shared x None (Some sink) k = absurd k
 
@@ -489,21 +453,12 @@ reads_rejoined link left given faults sink_link taken sink_faults asked ended di
     let bytes : bytes_fed (h ++ e ∷ []) ≡ bytes_fed h = flat_map-append fed_by h (e ∷ []) ∙ append-nil (bytes_fed h) in
     let l = present h in
     record {
-<<<<<<< HEAD
       source_is = subst (λ (z : Bool). KeepsSourceOf link left given faults z (is_some (ended b.dialer.value)) shared source' read (present (h ++ e ∷ []))) (sym (ap (λ (o : Option ℕ). is_some o) tries ∙ some))
           (subst (λ (m : PresentLink). KeepsSourceOf link left given faults true (is_some (ended b.dialer.value)) shared source' read m) (sym now)
           (source_next link left given faults sink_link taken sink_faults asked ended dialer_faults shared source source' k k' read l b.dialer.value dialer dialer' addr previous dials r.dialer_is));
       dialer_is = subst (λ (m : PresentLink). KeepsDialer ended dialer_faults shared b.dialer.value dialer' m) (sym now)
           (dialer_next link left given faults sink_link taken sink_faults asked ended dialer_faults shared source source' k k' read l b.dialer.value dialer dialer' addr previous dials
           (subst (λ (z : Bool). KeepsSourceOf link left given faults z (is_some (ended b.dialer.value)) shared source read l) some r.source_is) sink (lost_some l.write_failed l.stopped lost) r.dialer_is);
-=======
-      source_is = subst (λ (z : Bool). KeepsSourceOf link left given faults z shared source' read (present (h ++ e ∷ []))) (sym (ap (λ (o : Option ℕ). is_some o) tries ∙ some))
-          (subst (λ (m : PresentLink). KeepsSourceOf link left given faults true shared source' read m) (sym now)
-          (source_next link left given faults sink_link taken sink_faults asked ended dialer_faults shared source source' k k' read l dialer dialer' addr previous dials));
-      dialer_is = subst (λ (m : PresentLink). KeepsDialer ended dialer_faults shared b.dialer.value dialer' m) (sym now)
-          (dialer_next link left given faults sink_link taken sink_faults asked ended dialer_faults shared source source' k k' read l b.dialer.value dialer dialer' addr previous dials
-          (subst (λ (z : Bool). KeepsSourceOf link left given faults z shared source read l) some r.source_is) sink (lost_some l.write_failed l.stopped lost) r.dialer_is);
->>>>>>> origin/redial
       open_link = λ is. r.open_link some;
       read_is = r.read_is ∙ ap (λ (bs : List ℕ). b.read + length bs) (sym bytes);
       within = r.within;
