@@ -38,7 +38,7 @@ returns-clause-rejoined g c = let e = c.in_default.ensures in λ history last st
       count = refl;
       pending = refl;
       failed = refl;
-      stopped = c.stop_of_dial.ensures;
+      stopped = c.stop_of_dial-self.ensures;
       free = e.accepted;
       reopens = record { staging = c.reopen.new.self.staging; after = e.reopened; stands = e.stands; opens = e.opens };
       keeps = e.tickets;
