@@ -66,14 +66,14 @@ pub same_initial_source : {A : Type 0} (b c : A) (p q : List A) → p ≡ b ∷ 
 same_initial_source b c p q one two begins = some-injective c b (ap (λ l. get_elem? l 0) (sym two ∙ (seen_one p q b c one two begins ∙ one)))
 
 module _ {I O : Type 0} (link : I → ℕ) (left given : I → Option (List ℕ)) (source_faults : I → ℕ) (sink_link : O → ℕ) (taken : O → Option (List ℕ)) (sink_faults : O → ℕ) where
-  gives_if : (numbered : Bool) (shared : InitialGiving) (o : Option I) (k : Option O) (i : Option InitialSink) (read : ℕ) (h : List Entry) → KeepsSourceIf link left given source_faults numbered shared o i read (present h) → KeepsSinkIf sink_link taken sink_faults k i (present h)
-      → GivesLink link left given source_faults sink_link taken sink_faults numbered shared read (both o k) i h
-  gives_if numbered shared (Some source) (Some sink) (Some i) read h s k = (k, s)
-  gives_if numbered shared None None None read h s k = s
-  gives_if numbered shared (Some source) k None read h s t = absurd s
-  gives_if numbered shared None k (Some i) read h s t = absurd s
-  gives_if numbered shared (Some source) None (Some i) read h s t = absurd t
-  gives_if numbered shared None (Some sink) None read h s t = absurd t
+  gives_if : (numbered told : Bool) (shared : InitialGiving) (o : Option I) (k : Option O) (i : Option InitialSink) (read : ℕ) (h : List Entry) → KeepsSourceIf link left given source_faults numbered told shared o i read (present h) → KeepsSinkIf sink_link taken sink_faults k i (present h)
+      → GivesLink link left given source_faults sink_link taken sink_faults numbered told shared read (both o k) i h
+  gives_if numbered told shared (Some source) (Some sink) (Some i) read h s k = (k, s)
+  gives_if numbered told shared None None None read h s k = s
+  gives_if numbered told shared (Some source) k None read h s t = absurd s
+  gives_if numbered told shared None k (Some i) read h s t = absurd s
+  gives_if numbered told shared (Some source) None (Some i) read h s t = absurd t
+  gives_if numbered told shared None (Some sink) None read h s t = absurd t
 
 module _ {I O C D : Type 0} (link : I → ℕ) (left given : I → Option (List ℕ)) (source_faults : I → ℕ) (sink_link : O → ℕ) (taken : O → Option (List ℕ)) (sink_faults : O → ℕ) (ended : D → Option LinkLog) (dialer_faults : D → ℕ) (allows : Call → Form → Type 0) where
   pub gives_back : (p j : TurnPass (RequesterWithSink O C) Entry) (s : SourceReader I O C D) (m : RequesterWithSink O C) (b : InitialSource I O C D) (h : List Entry) → IsCaller p → FeedsFor link left given source_faults ended dialer_faults b s
@@ -112,9 +112,9 @@ module _ {I O C D : Type 0} (link : I → ℕ) (left given : I → Option (List 
         fed = st.within.fed;
         read = (let w = f.within in omega (arith, w, read));
         link_is = (let x = is_some (tries_of (seen_by s.pass)) in
-            subst (λ (z : Bool). GivesLink link left given source_faults sink_link taken sink_faults z shared (b.read + length (bytes_fed h)) (both s.source m.sink) (sink_of h) h) (ap (λ (o : Option ℕ). is_some o) (sym tries ∙ ap tries_in st.is_initial))
-            (gives_if link left given source_faults sink_link taken sink_faults x shared s.source m.sink (sink_of h) (b.read + length (bytes_fed h)) h
-            (subst (λ (n : ℕ). KeepsSourceOf link left given source_faults x shared s.source n (present h)) read (source_same link left given source_faults x shared s.source s.read (present (seen_by s.pass)) (present h) part f.source))
+            subst (λ (z : Bool). GivesLink link left given source_faults sink_link taken sink_faults z (is_some (ended b.dialer.value)) shared (b.read + length (bytes_fed h)) (both s.source m.sink) (sink_of h) h) (ap (λ (o : Option ℕ). is_some o) (sym tries ∙ ap tries_in st.is_initial))
+            (gives_if link left given source_faults sink_link taken sink_faults x (is_some (ended b.dialer.value)) shared s.source m.sink (sink_of h) (b.read + length (bytes_fed h)) h
+            (subst (λ (n : ℕ). KeepsSourceOf link left given source_faults x (is_some (ended b.dialer.value)) shared s.source n (present h)) read (source_same link left given source_faults x (is_some (ended b.dialer.value)) shared s.source s.read (present (seen_by s.pass)) (present h) part f.source))
             st.sink));
         dialer_is = dialer_same ended dialer_faults shared b.dialer.value s.dialer (present (seen_by s.pass)) (present h) part f.dialer;
       }
@@ -144,8 +144,8 @@ module _ {I O C D : Type 0} (link : I → ℕ) (left given : I → Option (List 
         fed = st.within.fed;
         read = (let len : length (bytes_fed h) ≡ 0 = ap length none in omega (arith, within, len));
         link_is = (let shared = shared_giving left given source_faults source in let read = read_before + length (bytes_fed h) in
-            subst (λ (z : Bool). GivesLink link left given source_faults sink_link taken sink_faults z shared read (both (Some source) m.sink) (sink_of h) h) (ap (λ (o : Option ℕ). is_some o) (ap tries_in st.is_initial))
-            (gives_if link left given source_faults sink_link taken sink_faults (is_some (tries_of h)) shared (Some source) m.sink (sink_of h) read h (source_begun link left given source_faults ended h source dialer read begun) st.sink));
+            subst (λ (z : Bool). GivesLink link left given source_faults sink_link taken sink_faults z (is_some (ended dialer)) shared read (both (Some source) m.sink) (sink_of h) h) (ap (λ (o : Option ℕ). is_some o) (ap tries_in st.is_initial))
+            (gives_if link left given source_faults sink_link taken sink_faults (is_some (tries_of h)) (is_some (ended dialer)) shared (Some source) m.sink (sink_of h) read h (source_begun link left given source_faults ended (is_some (ended dialer)) h source dialer read begun) st.sink));
         dialer_is = dialer_begun link ended dialer_faults (shared_giving left given source_faults source) h source dialer begun;
       }
 
@@ -191,7 +191,7 @@ link_back link left given source_faults sink_link taken sink_faults ended dialer
   no_tries : b.initial.tries ≡ None
   no_tries = ap tries_in (sym b.is_initial ∙ (same ∙ sym is)) ∙ none
 
-  by : (i : Option InitialSink) → GivesLink link left given source_faults sink_link taken sink_faults (is_some b.initial.tries) (shared_giving left given source_faults first) (read + length (bytes_fed b.history)) None i b.history → ⊥
+  by : (i : Option InitialSink) → GivesLink link left given source_faults sink_link taken sink_faults (is_some b.initial.tries) (is_some (ended first_dialer)) (shared_giving left given source_faults first) (read + length (bytes_fed b.history)) None i b.history → ⊥
   by None stop = subst (λ (o : Option ℕ). IsTold o (Some causes.DialFault)) no_tries (subst (IsTold b.initial.tries) stop (tries_told b.initial b.history b.is_initial b.may_follow))
   by (Some sink) bad = bad
 
@@ -206,7 +206,7 @@ back_open link left given source_faults sink_link taken sink_faults ended dialer
   tries : is_some b.initial.tries ≡ true
   tries = ap (λ (o : Option InitialState). is_some (tries_in o)) (sym b.is_initial ∙ (same ∙ sym is)) ∙ some
 
-  by : (i : Option InitialSink) → sink_of b.history ≡ i → GivesLink link left given source_faults sink_link taken sink_faults (is_some b.initial.tries) (shared_giving left given source_faults first) (read + length (bytes_fed b.history)) (Some (source, sink)) i b.history
+  by : (i : Option InitialSink) → sink_of b.history ≡ i → GivesLink link left given source_faults sink_link taken sink_faults (is_some b.initial.tries) (is_some (ended first_dialer)) (shared_giving left given source_faults first) (read + length (bytes_fed b.history)) (Some (source, sink)) i b.history
       → (link source ≡ sink_link sink) × HasOpenLink (ended dialer)
   by None none bad = absurd bad
   by (Some i) there (keeps, gave) = (gave.number tries ∙ sym keeps.number, b.dialer_is.open_link (ap (λ (o : Option InitialSink). is_some o) there) opened)

@@ -181,8 +181,8 @@ module _ {O C : Type 0} where
       omega (arith, l, same)
 
 -- its source, and the dialer
-source_first : {I : Type 0} (link : I → ℕ) (left given : I → Option (List ℕ)) (faults : I → ℕ) (c : InitialState) (source : I) (read : ℕ) → (is_some c.tries ≡ true → link source ≡ c.sink.link) → KeepsSourceOf link left given faults (is_some (tries_of (entries.Initial c ∷ []))) (shared_giving left given faults source) (Some source) read (present (entries.Initial c ∷ []))
-source_first link left given faults c source read number = record {
+source_first : {I : Type 0} (link : I → ℕ) (left given : I → Option (List ℕ)) (faults : I → ℕ) (told : Bool) (c : InitialState) (source : I) (read : ℕ) → (is_some c.tries ≡ true → link source ≡ c.sink.link) → KeepsSourceOf link left given faults (is_some (tries_of (entries.Initial c ∷ []))) told (shared_giving left given faults source) (Some source) read (present (entries.Initial c ∷ []))
+source_first link left given faults told c source read number = record {
   number = number;
   first = shared_giving left given faults source;
   is_first = refl;
@@ -193,10 +193,10 @@ source_first link left given faults c source read number = record {
   stop = tt;
 }
 
-pub source_begun : {I D : Type 0} (link : I → ℕ) (left given : I → Option (List ℕ)) (faults : I → ℕ) (ended : D → Option LinkLog) (history : List Entry) (source : I) (dialer : D) (read : ℕ) → IsBegun link ended history source dialer
-    → KeepsSourceOf link left given faults (is_some (tries_of history)) (shared_giving left given faults source) (Some source) read (present history)
-source_begun link left given faults ended history source dialer read o = subst (λ (h : List Entry). KeepsSourceOf link left given faults (is_some (tries_of h)) (shared_giving left given faults source) (Some source) read (present h)) (sym o.history_is)
-    (source_first link left given faults o.initial source read o.same)
+pub source_begun : {I D : Type 0} (link : I → ℕ) (left given : I → Option (List ℕ)) (faults : I → ℕ) (ended : D → Option LinkLog) (told : Bool) (history : List Entry) (source : I) (dialer : D) (read : ℕ) → IsBegun link ended history source dialer
+    → KeepsSourceOf link left given faults (is_some (tries_of history)) told (shared_giving left given faults source) (Some source) read (present history)
+source_begun link left given faults ended told history source dialer read o = subst (λ (h : List Entry). KeepsSourceOf link left given faults (is_some (tries_of h)) told (shared_giving left given faults source) (Some source) read (present h)) (sym o.history_is)
+    (source_first link left given faults told o.initial source read o.same)
 
 pub dialer_begun : {I D : Type 0} (link : I → ℕ) (ended : D → Option LinkLog) (faults : D → ℕ) (giving : InitialGiving) (history : List Entry) (source : I) (dialer : D) → IsBegun link ended history source dialer → KeepsDialer ended faults giving dialer dialer (present history)
 dialer_begun link ended faults giving history source dialer o = subst (λ (h : List Entry). KeepsDialer ended faults giving dialer dialer (present h)) (sym o.history_is) (record {
@@ -215,8 +215,8 @@ first_reader {I} {O} {C} {D} link left given faults ended dialer_faults b s hist
   lies = lies;
   feeding = feeding;
   source = (let shared = shared_giving left given faults b.source.value in
-      subst (λ (x : Option I). KeepsSourceOf link left given faults (is_some (tries_of (seen_by s.pass))) shared x s.read (present (seen_by s.pass))) (sym source)
-      (subst (λ (h : List Entry). KeepsSourceOf link left given faults (is_some (tries_of h)) shared (Some b.source.value) s.read (present h)) (sym seen) (source_begun link left given faults ended history b.source.value b.dialer.value s.read o)));
+      subst (λ (x : Option I). KeepsSourceOf link left given faults (is_some (tries_of (seen_by s.pass))) (is_some (ended b.dialer.value)) shared x s.read (present (seen_by s.pass))) (sym source)
+      (subst (λ (h : List Entry). KeepsSourceOf link left given faults (is_some (tries_of h)) (is_some (ended b.dialer.value)) shared (Some b.source.value) s.read (present h)) (sym seen) (source_begun link left given faults ended (is_some (ended b.dialer.value)) history b.source.value b.dialer.value s.read o)));
   dialer = (let shared = shared_giving left given faults b.source.value in
       subst (λ (d : D). KeepsDialer ended dialer_faults shared b.dialer.value d (present (seen_by s.pass))) (sym dialer)
       (subst (λ (h : List Entry). KeepsDialer ended dialer_faults shared b.dialer.value b.dialer.value (present h)) (sym seen) (dialer_begun link ended dialer_faults shared history b.source.value b.dialer.value o)));

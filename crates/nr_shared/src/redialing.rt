@@ -2,16 +2,15 @@
 
 ghost use Rattle.std.specs.Prelude.{◌≡◌, ◌⊎◌, ℕ, [], ◌∷◌, ◌++◌, List, Some, true, false, IfErr, OnOk, OnErr};
 ghost use Rattle.nr_turnstile.specs.Passes.{seen_by};
-ghost use Rattle.nr_turnstile.specs.Turns.{Has, IsSameTurn, pass_of};
+ghost use Rattle.nr_turnstile.specs.Turns.{IsSameTurn, pass_of};
 ghost use Rattle.nr_shared.specs.declared.entry.Entry.{Entry};
 ghost use Rattle.nr_shared.specs.declared.entry.Entry.TheVariants as entries;
-ghost use Rattle.nr_shared.specs.declared.requester_with_sink.RequesterWithSink.{RequesterWithSink};
 ghost use Rattle.nr_shared.specs.Callers.{IsFeeding, IsReady};
 ghost use Rattle.nr_shared.specs.Draining.{initial_sink};
 ghost use Rattle.nr_shared.specs.Histories.{last_feeding, stopped_by_dial};
 ghost use Rattle.nr_shared.specs.Output.{MayFeed, MayRejoin, MayStop};
 ghost use Rattle.nr_shared.specs.Dialing.{CannotReopen, DialsNext, HasLink, LinkHungUp};
-ghost use Rattle.nr_shared.specs.private.Reading.{IsUnmoved, Redials, cause_of_refusal};
+ghost use Rattle.nr_shared.specs.private.Reading.{CanHangUp, IsUnmoved, Redials, cause_of_refusal};
 ghost use Rattle.nr_shared.specs.Standing.{Stands};
 
 use crate::appending::append_rejoin;
@@ -126,11 +125,11 @@ fn redial_under<
     requires ready { IsReady O.link O.taken O.faults C.allows turn.old }
     requires feeding { IsFeeding (pass_of turn.old) }
     requires may { MayRejoin (seen_by (pass_of turn.old)) }
-    requires link { (y : RequesterWithSink O C) → Has turn.old y → HasLink I.link O.link D.ended source.old y.sink dialer.old }
+    requires link { CanHangUp I.link O.link O.taken O.faults D.ended (seen_by (pass_of turn.old)) source.old dialer.old }
     ensures same { IsSameTurn turn.old turn.new }
     ensures ready { IsReady O.link O.taken O.faults C.allows turn.new }
     ensures feeding { IsFeeding (pass_of turn.new) }
-    ensures redialled { Redials I.link I.left I.given I.faults O.link O.taken O.faults D.asked D.ended D.faults turn.old turn.new source.old source.new dialer.old dialer.new addr.now }
+    ensures redialled { Redials I.link I.left I.given I.faults O.link O.taken O.faults D.asked D.ended D.faults (seen_by (pass_of turn.old)) (seen_by (pass_of turn.new)) source.old source.new dialer.old dialer.new addr.now }
 {
     let with_sink = turn.value();
     match with_sink.redial(source, dialer, addr) {
@@ -157,13 +156,13 @@ pub(crate) fn input_or_link_under<
 ) -> bool
     requires ready { IsReady O.link O.taken O.faults C.allows turn.old }
     requires feeding { IsFeeding (pass_of turn.old) }
-    requires link { (y : RequesterWithSink O C) → Has turn.old y → HasLink I.link O.link D.ended source.old y.sink dialer.old }
+    requires link { CanHangUp I.link O.link O.taken O.faults D.ended (seen_by (pass_of turn.old)) source.old dialer.old }
     ensures same { IsSameTurn turn.old turn.new }
     ensures ready { IsReady O.link O.taken O.faults C.allows turn.new }
     ensures feeding { IsFeeding (pass_of turn.new) }
-    ensures input { result ≡ true → IsUnmoved (pass_of turn.old) (pass_of turn.new) source.old source.new dialer.old dialer.new × MayFeed (seen_by (pass_of turn.new)) }
-    ensures other { result ≡ false → IsUnmoved (pass_of turn.old) (pass_of turn.new) source.old source.new dialer.old dialer.new
-        ⊎ Redials I.link I.left I.given I.faults O.link O.taken O.faults D.asked D.ended D.faults turn.old turn.new source.old source.new dialer.old dialer.new addr.now }
+    ensures input { result ≡ true → IsUnmoved (seen_by (pass_of turn.old)) (seen_by (pass_of turn.new)) source.old source.new dialer.old dialer.new × MayFeed (seen_by (pass_of turn.new)) }
+    ensures other { result ≡ false → IsUnmoved (seen_by (pass_of turn.old)) (seen_by (pass_of turn.new)) source.old source.new dialer.old dialer.new
+        ⊎ Redials I.link I.left I.given I.faults O.link O.taken O.faults D.asked D.ended D.faults (seen_by (pass_of turn.old)) (seen_by (pass_of turn.new)) source.old source.new dialer.old dialer.new addr.now }
 {
     match need_under(turn, ticket) {
         Need::Nothing => false,

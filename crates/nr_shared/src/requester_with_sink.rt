@@ -275,8 +275,11 @@ impl<O: LinkSink + Drop, C: CallRule> RequesterWithSink<O, C> {
         if !self.pending {
             return Drained::Nothing;
         }
-        let Some(sink) = self.sink.take() else {
+        if self.sink.is_none() {
             return Drained::Nothing;
+        }
+        let Some(sink) = self.sink.take() else {
+            unreachable!();
         };
         let (sink, drained) = drain_numbered::<Brand, O>(&mut self.requester, sink);
         self.sink = Some(sink);
