@@ -357,13 +357,13 @@ module _ {I O C D : Type 0} (link : I → ℕ) (left given : I → Option (List 
         read_is = (let was = r.read_is in let len = ap length bytes ∙ length-append (bytes_fed h) piece in omega (arith, was, more, len));
         within = within;
       } where
-    piece_of : (shared : InitialGiving) (x o : Bool) (l : PresentLink) → l.stopped ≡ None → KeepsSourceOf link left given faults x (is_some (ended b.dialer.value)) shared (Some source) read l → KeepsSourceOf link left given faults x (is_some (ended b.dialer.value)) shared (Some source') read' (present_after l (fed_entry o piece 0))
-    piece_of shared x true l none k = piece_if link left given faults x (is_some (ended b.dialer.value)) shared source source' l.sink read read' l piece true gave number same none k
-    piece_of shared x false l none k = piece_if link left given faults x (is_some (ended b.dialer.value)) shared source source' l.sink read read' l piece false gave number same none k
+        piece_of : (shared : InitialGiving) (x o : Bool) (l : PresentLink) → l.stopped ≡ None → KeepsSourceOf link left given faults x (is_some (ended b.dialer.value)) shared (Some source) read l → KeepsSourceOf link left given faults x (is_some (ended b.dialer.value)) shared (Some source') read' (present_after l (fed_entry o piece 0))
+        piece_of shared x true l none k = piece_if link left given faults x (is_some (ended b.dialer.value)) shared source source' l.sink read read' l piece true gave number same none k
+        piece_of shared x false l none k = piece_if link left given faults x (is_some (ended b.dialer.value)) shared source source' l.sink read read' l piece false gave number same none k
 
-    dialer_piece : (shared : InitialGiving) (o : Bool) (l : PresentLink) → l.stopped ≡ None → KeepsDialer ended dialer_faults shared b.dialer.value dialer l → KeepsDialer ended dialer_faults shared b.dialer.value dialer (present_after l (fed_entry o piece 0))
-    dialer_piece shared true l none k = dialer_stays ended dialer_faults shared b.dialer.value dialer l (present_after l (fed_entry true piece 0)) refl refl (λ e. none_some causes.DialFault (sym none ∙ e)) (none_dial true piece 0 l none) k
-    dialer_piece shared false l none k = dialer_stays ended dialer_faults shared b.dialer.value dialer l (present_after l (fed_entry false piece 0)) refl refl (λ e. none_some causes.DialFault (sym none ∙ e)) (none_dial false piece 0 l none) k
+        dialer_piece : (shared : InitialGiving) (o : Bool) (l : PresentLink) → l.stopped ≡ None → KeepsDialer ended dialer_faults shared b.dialer.value dialer l → KeepsDialer ended dialer_faults shared b.dialer.value dialer (present_after l (fed_entry o piece 0))
+        dialer_piece shared true l none k = dialer_stays ended dialer_faults shared b.dialer.value dialer l (present_after l (fed_entry true piece 0)) refl refl (λ e. none_some causes.DialFault (sym none ∙ e)) (none_dial true piece 0 l none) k
+        dialer_piece shared false l none k = dialer_stays ended dialer_faults shared b.dialer.value dialer l (present_after l (fed_entry false piece 0)) refl refl (λ e. none_some causes.DialFault (sym none ∙ e)) (none_dial false piece 0 l none) k
 
   -- no more is read
   pub reads_stopped : (b : InitialSource I O C D) (source source' : I) (dialer : D) (read : ℕ) (h k : List Entry) (cause : Stop) → Reads b (Some source) dialer read h → tries_of k ≡ tries_of h
@@ -384,14 +384,14 @@ module _ {I O C D : Type 0} (link : I → ℕ) (left given : I → Option (List 
         read_is = r.read_is ∙ ap (λ (bs : List ℕ). b.read + length bs) (sym bytes);
         within = r.within;
       } where
-    no_dial : (c : Stop) → IsReadEnd c → Some c ≡ Some causes.DialFault → ⊥
-    no_dial causes.LinkRead end e = absurd cc
-    no_dial causes.Closed end e = absurd cc
-    no_dial causes.Budget end e = absurd cc
-    no_dial causes.Memory end e = end
-    no_dial causes.DialFault end e = end
-    no_dial (causes.Spent spent need) end e = end
-    no_dial causes.NotReopened end e = end
+        no_dial : (c : Stop) → IsReadEnd c → Some c ≡ Some causes.DialFault → ⊥
+        no_dial causes.LinkRead end e = absurd cc
+        no_dial causes.Closed end e = absurd cc
+        no_dial causes.Budget end e = absurd cc
+        no_dial causes.Memory end e = end
+        no_dial causes.DialFault end e = end
+        no_dial (causes.Spent spent need) end e = end
+        no_dial causes.NotReopened end e = end
 
   -- the requester couldn't be reopened
   pub reads_stay : (b : InitialSource I O C D) (source : Option I) (dialer : D) (read : ℕ) (h : List Entry) (c : InitialState) (cause : Stop) (previous : ℕ) → Reads b source dialer read h → initial_of h ≡ Some c → is_lost h ≡ true → CannotReopen cause
@@ -412,28 +412,28 @@ module _ {I O C D : Type 0} (link : I → ℕ) (left given : I → Option (List 
         read_is = r.read_is ∙ ap (λ (bs : List ℕ). b.read + length bs) (sym bytes);
         within = r.within;
       } where
-    no_dial : (c : Stop) → CannotReopen c → Some c ≡ Some causes.DialFault → ⊥
-    no_dial (causes.Spent spent need) end e = absurd cc
-    no_dial causes.NotReopened end e = absurd cc
-    no_dial causes.LinkRead end e = end
-    no_dial causes.Closed end e = end
-    no_dial causes.Budget end e = end
-    no_dial causes.Memory end e = end
-    no_dial causes.DialFault end e = end
+        no_dial : (c : Stop) → CannotReopen c → Some c ≡ Some causes.DialFault → ⊥
+        no_dial (causes.Spent spent need) end e = absurd cc
+        no_dial causes.NotReopened end e = absurd cc
+        no_dial causes.LinkRead end e = end
+        no_dial causes.Closed end e = end
+        no_dial causes.Budget end e = end
+        no_dial causes.Memory end e = end
+        no_dial causes.DialFault end e = end
 
-    holds : (c : Stop) (n m : ℕ) (o : Option (List ℕ)) (k : ℕ) → CannotReopen c → StopHolds (Some c) n m o k
-    holds (causes.Spent spent need) n m o k end = tt
-    holds causes.NotReopened n m o k end = tt
-    holds causes.LinkRead n m o k end = absurd end
-    holds causes.Closed n m o k end = absurd end
-    holds causes.Budget n m o k end = absurd end
-    holds causes.Memory n m o k end = absurd end
-    holds causes.DialFault n m o k end = absurd end
+        holds : (c : Stop) (n m : ℕ) (o : Option (List ℕ)) (k : ℕ) → CannotReopen c → StopHolds (Some c) n m o k
+        holds (causes.Spent spent need) n m o k end = tt
+        holds causes.NotReopened n m o k end = tt
+        holds causes.LinkRead n m o k end = absurd end
+        holds causes.Closed n m o k end = absurd end
+        holds causes.Budget n m o k end = absurd end
+        holds causes.Memory n m o k end = absurd end
+        holds causes.DialFault n m o k end = absurd end
 
-    stays_if : (shared : InitialGiving) (x : Bool) (o : Option I) (i : Option InitialSink) → KeepsSourceIf link left given faults x (is_some (ended b.dialer.value)) shared o i read (present h) → KeepsSourceIf link left given faults x (is_some (ended b.dialer.value)) shared o i read (present_after (present h) (entries.Stopped cause previous))
-    stays_if shared x (Some source) i k = stop_if link left given faults x (is_some (ended b.dialer.value)) shared source source i read (present h) cause (HandsOut_nil (left source) (given source)) refl (omega arith) (λ no. refl) (holds cause (faults source) (faults source) (left source) read cannot) k
-    stays_if shared x None None k = absurd (lost_some (present h).write_failed (present h).stopped lost k)
-    stays_if shared x None (Some sink) k = absurd k
+        stays_if : (shared : InitialGiving) (x : Bool) (o : Option I) (i : Option InitialSink) → KeepsSourceIf link left given faults x (is_some (ended b.dialer.value)) shared o i read (present h) → KeepsSourceIf link left given faults x (is_some (ended b.dialer.value)) shared o i read (present_after (present h) (entries.Stopped cause previous))
+        stays_if shared x (Some source) i k = stop_if link left given faults x (is_some (ended b.dialer.value)) shared source source i read (present h) cause (HandsOut_nil (left source) (given source)) refl (omega arith) (λ no. refl) (holds cause (faults source) (faults source) (left source) read cannot) k
+        stays_if shared x None None k = absurd (lost_some (present h).write_failed (present h).stopped lost k)
+        stays_if shared x None (Some sink) k = absurd k
 
   -- the value of the source's turn
   pub feeds_value : (b : InitialSource I O C D) (s t : SourceReader I O C D) (h : List (InitialSource I O C D)) → h ≡ b ∷ [] → Feeds link left given faults ended dialer_faults s h → s ≡ t → FeedsFor link left given faults ended dialer_faults b t
