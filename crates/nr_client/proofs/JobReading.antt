@@ -156,7 +156,7 @@ all_done s uid gid file size len old new rest same lent run =
 -- GETATTR over the link gave the attributes
 pub gets : (uid gid : ℕ) (file : List ℕ) (l m : LinkAt) (attributes : Attributes) → Asks getattr_result (getattr_call uid gid file) (view_at l) (view_at m) (Ok attributes)
     → m.source.faults ≡ l.source.faults → m.sink.faults ≡ l.sink.faults → (outcome : Outcome) × GetsAttributes uid gid file outcome attributes l m
-gets uid gid file l m attributes (inl (outcome, (answered, reads))) source sink = (outcome, record { answers = answered; gives = reads; source_count = source; sink_count = sink })
+gets uid gid file l m attributes (inl (outcome, (answered, reads))) source sink = (outcome, record { answers = answered.0; gives = reads; source_count = source; sink_count = sink })
 gets uid gid file l m attributes (inr (inl (end, (is, rest)))) source sink = absurd (cc)
 gets uid gid file l m attributes (inr (inr (is, rest))) source sink = absurd (cc)
 

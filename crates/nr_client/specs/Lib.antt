@@ -7,6 +7,7 @@ pub mod LinkParts
 pub mod Listing
 pub mod Paths
 pub mod Reading
+pub mod Relations
 pub mod Requests
 pub mod Results
 pub mod SessionState

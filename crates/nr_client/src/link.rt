@@ -124,7 +124,12 @@ impl<I: Source, O: Sink> Link<I, O> {
 }
 
 impl<I: Source, O: Sink> Calls for Link<I, O> {
-    ghost use Rattle.nr_client.specs.Views.{link_view};
+    ghost use Rattle.nr_client.specs.Calls.{link_relations};
+    ghost use Rattle.nr_client.specs.Views.{LinkView, link_view};
+
+    ghost View = { LinkView };
+
+    ghost relations = { link_relations };
 
     ghost at = { λ c. link_view (I.left c.source) (I.given c.source) (O.taken c.sink) c.read c.requester (I.faults c.source) (O.faults c.sink) };
 
