@@ -53,6 +53,7 @@ pub mod Touches
 pub mod Sizes
 pub mod Segments
 pub mod OwnStags
+pub mod LeftClients
 pub mod NewStags
 pub mod FoundCalls
 pub mod GoingOn

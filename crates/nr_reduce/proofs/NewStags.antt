@@ -5,15 +5,12 @@ use Rattle.std.proofs.lemmas.List.Elements.{Contains-append_cases}
 use Rattle.nr_reduce.specs.declared.mark.Mark.{Mark}
 use Rattle.nr_reduce.specs.declared.mark.LinkParameters.{LinkParameters}
 use Rattle.nr_reduce.specs.OfferedRegions.{Region}
-use Rattle.nr_reduce.specs.Events.{RunEvent}
-use Rattle.nr_reduce.specs.EndRules.{EndState, end_state_after}
-use Rattle.nr_reduce.specs.ClientState.{ClientState}
-use Rattle.nr_reduce.specs.Client.{client_rules, initial_client}
 use Rattle.nr_reduce.specs.Run.{client}
 use Rattle.nr_reduce.specs.Reopening.{IsReopened, reopened}
 use Rattle.nr_reduce.specs.ReopenedLinks.{ReopenedStagsAreNew}
 use Rattle.nr_reduce.proofs.OwnStags.{AreNumbered, client_known}
 use Rattle.nr_reduce.proofs.GoingOn.{no_element, one_element}
+use Rattle.nr_reduce.proofs.LeftClients.{client_left}
 
 -- consecutive STags lie between the first one and the next one
 within : (n : ℕ) (regions : List Region) (r : Region) → AreNumbered n regions → Contains regions r → (n ≤ r.stag) × (r.stag < n + length regions)
@@ -23,11 +20,6 @@ within n (q ∷ regions) r h c = elim (Contains-append_cases (q ∷ []) regions 
   | inr more ↦ (let both = within (n + 1) regions r h.1 more in let low = both.0 in let high = both.1 in (omega (arith, low), omega (arith, high)))
 ]
 
--- a client that was left stays as it was
-pub client_left : (opened next_opened : LinkParameters) (link : ℕ) (run before : List Mark) → IsReopened opened next_opened link run before → client opened link run ≡ client opened link before
-unfolding client
-client_left opened next_opened link run before is = ap (λ (es : List RunEvent). end_state_after (client_rules opened) (initial_client opened) es) is.left
-
 first_stag : (opened next_opened : LinkParameters) (link : ℕ) (run before : List Mark) → IsReopened opened next_opened link run before → next_opened.first_stag ≡ (client opened link before).state.stag
 unfolding reopened
 first_stag opened next_opened link run before is = ap (λ (o : LinkParameters). o.first_stag) is.next
@@ -35,7 +27,7 @@ first_stag opened next_opened link run before is = ap (λ (o : LinkParameters). 
 pub stags_are_new : ReopenedStagsAreNew
 stags_are_new opened next_opened link next run before later earlier r is old new =
     let first = first_stag opened next_opened link run before is in
-    let left = ap (λ (s : EndState ClientState). s.state.stag) (client_left opened next_opened link run before is) in
+    let left = (client_left opened next_opened link run before is).0 in
     let below = (within opened.first_stag (client opened link run).state.regions earlier (client_known opened link run).regions old).1 in
     let end = (client_known opened link run).next in
     let above = (within next_opened.first_stag (client next_opened next later).state.regions r (client_known next_opened next later).regions new).0 in

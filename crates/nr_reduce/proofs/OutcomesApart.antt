@@ -72,7 +72,7 @@ none_of_xid xid (o ∷ os) = by (eqb o.xid xid) refl (none_of_xid xid os)
     by true e rest = rest
     by false e rest = ((λ same. absurd (let t = eq-eqb o.xid xid same in let wrong : true ≡ false = sym t ∙ e in cc)), rest)
 
-all_more : {X : Type 0} (P : X → Type 0) (xs ys : List X) → AllByRecursion P xs → AllByRecursion P ys → AllByRecursion P (xs ++ ys)
+pub all_more : {X : Type 0} (P : X → Type 0) (xs ys : List X) → AllByRecursion P xs → AllByRecursion P ys → AllByRecursion P (xs ++ ys)
 all_more P [] ys h k = k
 all_more P (x ∷ xs) ys h k = (h.0, all_more P xs ys h.1 k)
 

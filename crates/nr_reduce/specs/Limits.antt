@@ -19,7 +19,7 @@ given_max = 1056768
 abbrev pub chunk_segment_max : ℕ
 chunk_segment_max = 66048
 
--- how many xids below the largest one of a client's calls a server remembers, that one among them
+-- how many xids up to the largest one of a client's entries a server remembers, that one among them
 abbrev pub window : ℕ
 window = 64
 

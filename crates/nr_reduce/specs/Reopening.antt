@@ -1,7 +1,7 @@
 -- A client leaves its link and begins another one. A connection is a link of its own: its client is opened with what the client of the link
 -- before it knows, and from then on all that is said of a link is said of it.
 use Rattle.std.specs.Prelude.{◌≡◌, ◌≢◌, ℕ, ◌≤◌, true, not, ◌==◌, if◌then◌else◌, List, [], ◌∷◌, ◌++◌, map, Option, None, Some, ◌⊎◌, Contains}
-use Rattle.std.specs.List.{flat_map, filter, find}
+use Rattle.std.specs.List.{AllByRecursion, flat_map, filter, find}
 use Rattle.nr_wire.specs.declared.hello.Side.TheVariants.{Initiator}
 use Rattle.nr_link.specs.declared.agreement.Agreement.{Agreement}
 use Rattle.nr_reduce.specs.Limits.{numbers_end}
@@ -9,7 +9,8 @@ use Rattle.nr_reduce.specs.declared.mark.Mark.{Mark}
 use Rattle.nr_reduce.specs.declared.mark.LinkParameters.{LinkParameters}
 use Rattle.nr_reduce.specs.declared.mark.ResumedCall.{ResumedCall}
 use Rattle.nr_reduce.specs.History.{AcceptedCall, CompletedCall, accepted_calls, is_abandoned}
-use Rattle.nr_reduce.specs.Events.{events}
+use Rattle.nr_reduce.specs.Events.{RunEvent, events}
+use Rattle.nr_reduce.specs.Events.RunEvent.{FrameReceived, CallSubmitted, MemoryRevoked, CallExecuted, QueueWritten, ServerTold}
 use Rattle.nr_reduce.specs.ClientState.{OutstandingCall, WaitingCall, ClientState, stag_after}
 use Rattle.nr_reduce.specs.Run.{client}
 
@@ -50,15 +51,26 @@ pub record HasAnswer (opened : LinkParameters) (link : ℕ) (before : List Mark)
   pub is_received : Contains (client opened link before).state.outcomes completed
   pub own : completed.xid ≡ xid
 
--- A client with a number that hasn't ended left this link after the marks `before`, and began the next one, while STags were left for its calls:
--- its old end has no more events. What was received by then may still be handed over, or given up; a call without an answer belongs to the next
--- link. The server of the old link may still execute what reached it.
+-- What may still happen at the end of a client that left its link: the memory of a call whose answer came is given back.
+abbrev pub IsLate : LinkParameters → ℕ → List Mark → RunEvent → Type 0
+IsLate opened link before (MemoryRevoked place xid) = HasAnswer opened link before xid
+IsLate opened link before (FrameReceived frame) = ⊥
+IsLate opened link before (CallSubmitted place call) = ⊥
+IsLate opened link before (CallExecuted call) = ⊥
+IsLate opened link before (QueueWritten taken) = ⊥
+IsLate opened link before (ServerTold what) = ⊥
+
+-- A client with a number that hasn't ended left this link after the marks `before`, and began the next one, while STags were left for its calls.
+-- What was received by then may still be handed over, or given up; nothing else happens at its old end, and a call without an answer belongs to the
+-- next link. The server of the old link may still execute what reached it.
 pub record IsReopened (opened next_opened : LinkParameters) (link : ℕ) (run before : List Mark) : Type 0 where
   pub after : List Mark
   pub is_cut : run ≡ before ++ after
   pub numbered : opened.client.number ≢ 0
   pub stays : (client opened link before).ended ≡ None
-  pub left : events link Initiator run ≡ events link Initiator before
+  pub late : List RunEvent
+  pub left : events link Initiator run ≡ events link Initiator before ++ late
+  pub harmless : AllByRecursion (IsLate opened link before) late
   pub given_up : (xid : ℕ) → is_abandoned link xid run ≡ true → (is_abandoned link xid before ≡ true) ⊎ HasAnswer opened link before xid
   pub next : next_opened ≡ reopened opened link before
   pub stags : stag_after next_opened.first_stag next_opened.resumed ≤ numbers_end

@@ -15,7 +15,7 @@ use Rattle.nr_reduce.specs.Credits.{KeepsGrant}
 abbrev pub resend_mark : (link : ℕ) → WaitingCall → Mark
 resend_mark link w = marks.Submit link w.call w.form (submissions.Accepted w.xid)
 
--- the Submits that may follow these marks
+-- the Submits by which a client sends the calls again that it can, after these marks
 abbrev pub resends_after : LinkParameters → (link : ℕ) → List Mark → List Mark
 resends_after opened link run = map (resend_mark link) (calls_to_resend (client opened link run))
 

@@ -3,7 +3,7 @@
 ghost use Rattle.nr_reduce.specs.OutputLaws.{ClientOutputIsItems, ClientBytes, ServerBytes, ClientCountsItems, WroteAddsNothing};
 ghost use Rattle.nr_reduce.specs.RunLaws.{ClientAfterMark, ServerAfterMark, ClientOutputAfterMark, ServerOutputAfterMark, EndedClientStays, EndedServerStays, FullHoldsSoFar, SoFarHoldsBefore, AskedWithMark, ServedWithMark, GrantsHaveOwnStags, ClientAllows, ServerAllows, StagsAreNumbers, AcceptedKeepsLaw, SubmitIsSent, HelloSendsCalls, AcceptedCallsWait, ReadChunkStays, PayloadHasItsXid, ReadyIsConveyed, PayloadIsConveyed, ExecuteIsAnswered, RefusedSendIsAnswered, BadMessageIsRefused, RefusedCallIsAnswered, RefusedIsNotExecuted, OpenReadsAreFew, PlanIsAccepted, SendIsExecutedOnce, CallCompletesOnce, XidsRise, PlacesRise};
 ghost use Rattle.nr_reduce.specs.Resending.{ResendsKeepLaw};
-ghost use Rattle.nr_reduce.specs.ReopenedLinks.{ReopenedStagsAreNew, ReopenedCallsGoOn};
+ghost use Rattle.nr_reduce.specs.ReopenedLinks.{LeftLinksStay, ReopenedStagsAreNew, ReopenedCallsGoOn};
 
 /// One mark more: the state of an end, and the output due, are those before with the events of the mark.
 pub fn one_mark_more()
@@ -97,9 +97,11 @@ pub fn nothing_twice()
 
 /// A client that went on over another link offers nothing there under an STag of the link that it left: its STags are larger. Of a
 /// client that was opened with numbers in range and kept its law so far, the next link sends each call again that was outstanding or
-/// waited, and wasn't given up, by its plan.
+/// waited, and wasn't given up, by its plan. A call of the link that was left, whose answer came there, may still be given up, and its
+/// memory given back.
 pub fn reopened_links_go_on()
     ensures stags { ReopenedStagsAreNew }
+    ensures stays { LeftLinksStay }
     ensures calls { ReopenedCallsGoOn }
 {}
 
