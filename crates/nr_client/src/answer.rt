@@ -19,10 +19,8 @@ pub(crate) fn outcome_of<L: Calls>(
     call: Result<Call, Memory>,
 ) -> Result<Outcome, ClientEnd>
     requires { IfOk call (λ c. CanWriteCred c.cred) }
-    ensures ok { (asked : Call) → IfOk call (λ c. c ≡ asked) → IfOk result (λ outcome. L.relations.answers
-        (L.at link.old) (L.at link.new) asked outcome) }
-    ensures err { (asked : Call) → IfOk call (λ c. c ≡ asked) → IfErr result (λ end. UnansweredOver L.relations asked
-        (L.at link.old) (L.at link.new) end) }
+    ensures ok { (asked : Call) → IfOk call (λ c. c ≡ asked) → IfOk result (λ outcome. L.relations.answers (L.at link.old) (L.at link.new) asked outcome) }
+    ensures err { (asked : Call) → IfOk call (λ c. c ≡ asked) → IfErr result (λ end. UnansweredOver L.relations asked (L.at link.old) (L.at link.new) end) }
     ensures of_call { IfErr result IsOfCall }
     ensures tickets { KeepsTicketsOver L.relations (L.at link.old) (L.at link.new) }
     ensures faults { CountsFaultsOver L.relations result (L.at link.old) (L.at link.new) }

@@ -24,8 +24,7 @@ pub(crate) fn mount_over<L: Calls>(
     gid: u32,
     export: &MountPath,
 ) -> Result<Handle, ClientEnd>
-    ensures asks { AsksOver L.relations mnt_result (mnt_call uid gid export.now)
-        (L.at link.old) (L.at link.new) result }
+    ensures asks { AsksOver L.relations mnt_result (mnt_call uid gid export.now) (L.at link.old) (L.at link.new) result }
     ensures faults { CountsFaultsOver L.relations result (L.at link.old) (L.at link.new) }
 {
     let outcome = match outcome_of(link, mnt_call(alloc, uid, gid, export)) {
@@ -42,8 +41,7 @@ pub(crate) fn ask_nfs<L: Calls, D: Xdr, F: Xdr>(
     call: Result<Call, Memory>,
 ) -> Result<D, ClientEnd>
     requires { IfOk call (λ c. CanWriteCred c.cred) }
-    ensures asks { (asked : Call) → IfOk call (λ c. c ≡ asked) → AsksOver L.relations (nfs_reads D.codec F.codec) asked
-        (L.at link.old) (L.at link.new) result }
+    ensures asks { (asked : Call) → IfOk call (λ c. c ≡ asked) → AsksOver L.relations (nfs_reads D.codec F.codec) asked (L.at link.old) (L.at link.new) result }
     ensures of_call { IfErr result IsOfCall }
     ensures faults { CountsFaultsOver L.relations result (L.at link.old) (L.at link.new) }
 {

@@ -131,8 +131,7 @@ pub(crate) fn list_over<L: Calls>(
     gid: u32,
     dir: &Handle,
 ) -> Result<Names, ClientEnd>
-    ensures follows { FollowsOver L.relations (list_next uid gid dir.now)
-        (L.at link.old) (L.at link.new) result }
+    ensures follows { FollowsOver L.relations (list_next uid gid dir.now) (L.at link.old) (L.at link.new) result }
     ensures faults { CountsFaultsOver L.relations result (L.at link.old) (L.at link.new) }
 {
     let mut listed = Listed {

@@ -155,8 +155,7 @@ pub(crate) fn read_file_over<L: Calls, K: Sink>(
     file: &Handle,
     out: &mut K,
 ) -> Result<(), ClientEnd>
-    ensures reads { ReadsFileOver L.relations uid gid file.now
-        (L.at link.old) (L.at link.new) (K.taken out.old) (K.taken out.new) result }
+    ensures reads { ReadsFileOver L.relations uid gid file.now (L.at link.old) (L.at link.new) (K.taken out.old) (K.taken out.new) result }
     ensures out_faults { OutputFaults result (K.faults out.old) (K.faults out.new) }
     ensures faults { CountsFaultsOver L.relations result (L.at link.old) (L.at link.new) }
 {

@@ -133,8 +133,7 @@ impl<P: LinkSource, Q: LinkSink, N: LinkNumber> Session<
 impl<L: Calls> Session<L> {
     /// The file handle of the root of an export (MNT, RFC 1813 section 5.2.1).
     pub fn mount(&mut self, export: &MountPath) -> Result<Handle, ClientEnd>
-        ensures asks { AsksOver L.relations mnt_result (mnt_call self.old.uid self.old.gid export.now)
-            (L.at self.old.link) (L.at self.new.link) result }
+        ensures asks { AsksOver L.relations mnt_result (mnt_call self.old.uid self.old.gid export.now) (L.at self.old.link) (L.at self.new.link) result }
         ensures user { (self.new.uid ≡ self.old.uid) × (self.new.gid ≡ self.old.gid) }
         ensures faults { CountsFaultsOver L.relations result (L.at self.old.link) (L.at self.new.link) }
     {
@@ -143,8 +142,7 @@ impl<L: Calls> Session<L> {
 
     /// The attributes of a file (GETATTR, RFC 1813 section 3.3.1).
     pub fn stat(&mut self, file: &Handle) -> Result<Attributes, ClientEnd>
-        ensures asks { AsksOver L.relations getattr_result (getattr_call self.old.uid self.old.gid file.now)
-            (L.at self.old.link) (L.at self.new.link) result }
+        ensures asks { AsksOver L.relations getattr_result (getattr_call self.old.uid self.old.gid file.now) (L.at self.old.link) (L.at self.new.link) result }
         ensures user { (self.new.uid ≡ self.old.uid) × (self.new.gid ≡ self.old.gid) }
         ensures faults { CountsFaultsOver L.relations result (L.at self.old.link) (L.at self.new.link) }
     {
@@ -228,8 +226,7 @@ impl<L: Calls> Session<L> {
     /// The file handle of a path from a directory: a LOOKUP for each component, one after another (RFC 1813 section 3.3.3). If the path is
     /// bad (`BadPath`), no call is made.
     pub fn walk(&mut self, root: &Handle, path: &[u8]) -> Result<Handle, ClientEnd>
-        ensures follows { FollowsOver L.relations (walk_next self.old.uid self.old.gid root.now path.now)
-            (L.at self.old.link) (L.at self.new.link) result }
+        ensures follows { FollowsOver L.relations (walk_next self.old.uid self.old.gid root.now path.now) (L.at self.old.link) (L.at self.new.link) result }
         ensures user { (self.new.uid ≡ self.old.uid) × (self.new.gid ≡ self.old.gid) }
         ensures faults { CountsFaultsOver L.relations result (L.at self.old.link) (L.at self.new.link) }
     {
@@ -243,8 +240,7 @@ impl<L: Calls> Session<L> {
         root: &Handle,
         path: &[u8],
     ) -> Result<(Handle, Name), ClientEnd>
-        ensures follows { FollowsOver L.relations (parent_next self.old.uid self.old.gid root.now path.now)
-            (L.at self.old.link) (L.at self.new.link) result }
+        ensures follows { FollowsOver L.relations (parent_next self.old.uid self.old.gid root.now path.now) (L.at self.old.link) (L.at self.new.link) result }
         ensures user { (self.new.uid ≡ self.old.uid) × (self.new.gid ≡ self.old.gid) }
         ensures faults { CountsFaultsOver L.relations result (L.at self.old.link) (L.at self.new.link) }
     {
@@ -254,8 +250,7 @@ impl<L: Calls> Session<L> {
     /// The names of a directory in the server's order: READDIR up to its end (RFC 1813 section 3.3.16). `Budget` if there are more than
     /// 1048576; `BadReply` with reason 25 if a reply has no entry and isn't the last.
     pub fn list(&mut self, dir: &Handle) -> Result<Names, ClientEnd>
-        ensures follows { FollowsOver L.relations (list_next self.old.uid self.old.gid dir.now)
-            (L.at self.old.link) (L.at self.new.link) result }
+        ensures follows { FollowsOver L.relations (list_next self.old.uid self.old.gid dir.now) (L.at self.old.link) (L.at self.new.link) result }
         ensures user { (self.new.uid ≡ self.old.uid) × (self.new.gid ≡ self.old.gid) }
         ensures faults { CountsFaultsOver L.relations result (L.at self.old.link) (L.at self.new.link) }
     {

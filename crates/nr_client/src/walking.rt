@@ -22,8 +22,7 @@ fn object_over<L: Calls>(
     dir: &Handle,
     name: &Name,
 ) -> Result<Handle, ClientEnd>
-    ensures asks { AsksOver L.relations object_result (lookup_call uid gid dir.now name.now)
-        (L.at link.old) (L.at link.new) result }
+    ensures asks { AsksOver L.relations object_result (lookup_call uid gid dir.now name.now) (L.at link.old) (L.at link.new) result }
     ensures faults { CountsFaultsOver L.relations result (L.at link.old) (L.at link.new) }
 {
     let call = lookup_call(alloc, uid, gid, dir, name);
@@ -42,8 +41,7 @@ fn walk_names<L: Calls>(
     root: &Handle,
     names: &[Name],
 ) -> Result<Handle, ClientEnd>
-    ensures follows { FollowsOver L.relations (walk_from uid gid root.now names.now)
-        (L.at link.old) (L.at link.new) result }
+    ensures follows { FollowsOver L.relations (walk_from uid gid root.now names.now) (L.at link.old) (L.at link.new) result }
     ensures faults { CountsFaultsOver L.relations result (L.at link.old) (L.at link.new) }
 {
     let Ok(mut dir) = Handle::from_slice(alloc, root.as_slice()) else {
@@ -68,8 +66,7 @@ fn parent_of_names<L: Calls>(
     at: usize,
     names: &[Name],
 ) -> Result<(Handle, Name), ClientEnd>
-    ensures follows { FollowsOver L.relations (parent_along uid gid root.now at names.now)
-        (L.at link.old) (L.at link.new) result }
+    ensures follows { FollowsOver L.relations (parent_along uid gid root.now at names.now) (L.at link.old) (L.at link.new) result }
     ensures faults { CountsFaultsOver L.relations result (L.at link.old) (L.at link.new) }
 {
     if names.is_empty() {
@@ -94,8 +91,7 @@ pub(crate) fn walk_over<L: Calls>(
     root: &Handle,
     path: &[u8],
 ) -> Result<Handle, ClientEnd>
-    ensures follows { FollowsOver L.relations (walk_next uid gid root.now path.now)
-        (L.at link.old) (L.at link.new) result }
+    ensures follows { FollowsOver L.relations (walk_next uid gid root.now path.now) (L.at link.old) (L.at link.new) result }
     ensures faults { CountsFaultsOver L.relations result (L.at link.old) (L.at link.new) }
 {
     let names = match components(alloc, path) {
@@ -114,8 +110,7 @@ pub(crate) fn walk_to_parent_over<L: Calls>(
     root: &Handle,
     path: &[u8],
 ) -> Result<(Handle, Name), ClientEnd>
-    ensures follows { FollowsOver L.relations (parent_next uid gid root.now path.now)
-        (L.at link.old) (L.at link.new) result }
+    ensures follows { FollowsOver L.relations (parent_next uid gid root.now path.now) (L.at link.old) (L.at link.new) result }
     ensures faults { CountsFaultsOver L.relations result (L.at link.old) (L.at link.new) }
 {
     let names = match components(alloc, path) {

@@ -44,12 +44,10 @@ fn write_piece<L: Calls>(
     at: usize,
 ) -> Result<usize, ClientEnd>
     requires { length piece.now ≤ transfer_max }
-    ensures ok { IfOk result (λ count. WritesOn L.relations uid gid file.now piece.now at (at + count)
-        (L.at link.old) (L.at link.new)) }
+    ensures ok { IfOk result (λ count. WritesOn L.relations uid gid file.now piece.now at (at + count) (L.at link.old) (L.at link.new)) }
     ensures more { IfOk result (λ count. 0 < count) }
     ensures within { IfOk result (λ count. count ≤ length piece.now) }
-    ensures err { IfErr result (λ end. FailsToWrite L.relations uid gid file.now piece.now at
-        (L.at link.old) (L.at link.new) end) }
+    ensures err { IfErr result (λ end. FailsToWrite L.relations uid gid file.now piece.now at (L.at link.old) (L.at link.new) end) }
     ensures of_call { IfErr result IsOfCall }
     ensures faults { CountsFaultsOver L.relations result (L.at link.old) (L.at link.new) }
 {
@@ -145,8 +143,7 @@ fn create_over<L: Calls>(
     dir: &Handle,
     name: &Name,
 ) -> Result<Handle, ClientEnd>
-    ensures asks { AsksOver L.relations created_file (create_call uid gid dir.now name.now)
-        (L.at link.old) (L.at link.new) result }
+    ensures asks { AsksOver L.relations created_file (create_call uid gid dir.now name.now) (L.at link.old) (L.at link.new) result }
     ensures of_call { IfErr result IsOfCall }
     ensures faults { CountsFaultsOver L.relations result (L.at link.old) (L.at link.new) }
 {
