@@ -1,5 +1,5 @@
 -- One step of a call after another.
-use Rattle.std.proofs.Common.{◌≡◌, ◌≤◌, ◌⊎◌, ℕ, ◌+◌, arith, true, false, None, List, [], ◌∷◌, ◌++◌, length, take, drop, Option, inl, inr, refl, sym, ap, subst, ◌∙◌, append_assoc, append-nil, take-append-drop}
+use Rattle.std.proofs.Common.{◌≡◌, ◌⊎◌, ℕ, ◌+◌, true, false, None, List, [], ◌∷◌, ◌++◌, length, take, drop, Option, inl, inr, refl, sym, ap, subst, ◌∙◌, append_assoc, append-nil, take-append-drop}
 use Rattle.std.proofs.Math.Seq.{drop-length}
 use Rattle.nr_link.specs.declared.end.End.TheVariants as ends
 use Rattle.nr_wire.specs.declared.hello.Side.TheVariants.{Initiator}

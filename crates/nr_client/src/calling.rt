@@ -1,6 +1,6 @@
 //! A call over a link.
 
-ghost use Rattle.std.specs.Prelude.{◌≡◌, ◌≢◌, ◌<◌, ◌≤◌, true, false, Some, None, is_some, [], length, Option, List, ℕ, IfOk, IfErr, OnOk, OnErr};
+ghost use Rattle.std.specs.Prelude.{◌≡◌, ◌≢◌, ◌<◌, true, false, Some, None, is_some, [], length, Option, List, ℕ, IfOk, IfErr, OnOk, OnErr};
 ghost use Rattle.nr_rpc.specs.Credential.{CanWriteCred};
 ghost use Rattle.nr_link.specs.declared.end.End.TheVariants as ends;
 ghost use Rattle.nr_requester.specs.Fed.{fed_bytes};

@@ -14,7 +14,7 @@ ghost use Rattle.nr_shared.specs.declared.entry.Entry.TheVariants as entries;
 ghost use Rattle.nr_shared.specs.Sharing.{SharedRests};
 ghost use Rattle.nr_shared.specs.Standing.{bytes_before};
 ghost use Rattle.nr_client.specs.Jobs.{FileReads, ReadsShared, jobs_max, link_at};
-ghost use Rattle.nr_client.specs.Reading.{OutputFaults, file_read, piece_left};
+ghost use Rattle.nr_client.specs.Reading.{OutputFaults, file_read};
 ghost use Rattle.nr_client.specs.Reading.FileRead.{SizeKnown};
 ghost use Rattle.nr_client.specs.private.JobReads.{AreFetched, EndsMore, Grows, IsDone, IsFetched, IsReady, IsRuleOf, ReadsMore};
 
