@@ -114,7 +114,9 @@ step_is_next opened run old link old_began began gap later h = record {
     is_cut = h.is_cut;
     numbered = h.numbered;
     stays = h.stays;
-    left = ap (λ (r : List Mark). events old Initiator r) h.is_cut ∙ none_happens old Initiator began h.after h.quiet;
+    late = [];
+    left = ap (λ (r : List Mark). events old Initiator r) h.is_cut ∙ none_happens old Initiator began h.after h.quiet ∙ sym (append-nil (events old Initiator began));
+    harmless = tt;
     given_up = λ xid e. inl (or_false (is_abandoned old xid began) (is_abandoned old xid h.after)
         (sym (any_append (abandons old xid) began h.after) ∙ ap (λ (r : List Mark). is_abandoned old xid r) (sym h.is_cut) ∙ e) (none_given_up old xid h.after h.quiet));
     next = h.next;

@@ -9,6 +9,7 @@ use Rattle.nr_reduce.specs.declared.mark.Mark.{Mark}
 use Rattle.nr_reduce.specs.declared.mark.LinkParameters.{LinkParameters}
 use Rattle.nr_reduce.specs.Events.{events}
 use Rattle.nr_reduce.specs.NumberedJournal.{number_in_frames, number_heard}
+use Rattle.nr_reduce.proofs.LeftClients.{nothing_late}
 use Rattle.nr_laws.proofs.Following.{events_more}
 use Rattle.nr_laws.specs.OnceEach.{BegunLink, IsNextLink, GoesOn, IsEarlier, OneClientEach}
 use Rattle.nr_drill.specs.Drill.{link_of, Setting, client_of}
@@ -134,7 +135,7 @@ module _ (t : Setting) (clients links : ℕ) (lasts : List ℕ) (run : List Mark
                   (none_first (events next.link Initiator (h.began old.link)) rest.0 (sym rest.1 ∙ ap (λ (r : List Mark). events next.link Initiator r) (sym p.1) ∙ n.fresh.0))
               fronts (inr p) =
                   let none : NoMarkOf old.link next.began = front_none old.link next.began p.0 (subst (NoMarkOf old.link) p.1 (h.steps old.link old_is more).fresh) in
-                  wrote old.link old_is (n.reopened.left ∙ (none_begun old.link next.began none).0)
+                  wrote old.link old_is (nothing_late (t.opened old.link) (t.opened next.link) old.link run next.began n.reopened (none_begun old.link next.began none).0)
 
           cases : (old.link ≤ clients) ⊎ (clients < old.link) → ⊥
           cases (inl first) =
@@ -146,7 +147,8 @@ module _ (t : Setting) (clients links : ℕ) (lasts : List ℕ) (run : List Mark
       -- one link doesn't go on from itself
       itself_not : next.link ≡ old.link → ⊥
       itself_not same = wrote next.link is
-          (ap (λ (l : ℕ). events l Initiator run) same ∙ n.reopened.left ∙ ap (λ (l : ℕ). events l Initiator next.began) (sym same) ∙ n.fresh.0)
+          (ap (λ (l : ℕ). events l Initiator run) same
+          ∙ nothing_late (t.opened old.link) (t.opened next.link) old.link run next.began n.reopened (ap (λ (l : ℕ). events l Initiator next.began) (sym same) ∙ n.fresh.0))
 
       place : IsIn links old.link → (next.link ≤ old.link) ⊎ (old.link < next.link) → (old.link ≤ next.link) ⊎ (next.link < old.link) → IsOld old.link next.link
       place old_is (inr lt) other = record { is = old_is; same = one_client; lower = lt }

@@ -1,11 +1,11 @@
 -- On matched links a reply that is handed over, and that adds an entry, has its one entry: its call was executed as a new one, or it was one before
 -- that, on this link or an earlier one, and has kept its entry.
-use Rattle.std.proofs.Common.{◌≡◌, ◌≢◌, ℕ, List, [], ◌∷◌, ◌++◌, length, Option, Some, refl, sym, ap, subst, ◌∙◌, arith, append_assoc, append-nil, ◌⊎◌, inl, inr, length-append}
+use Rattle.std.proofs.Common.{◌≡◌, ◌≢◌, ℕ, List, [], ◌∷◌, ◌++◌, length, Option, Some, refl, sym, ap, subst, ◌∙◌, append_assoc, ◌⊎◌, inl, inr}
 use Rattle.std.specs.Prelude.{slice_get, Contains}
 use Rattle.nr_xdr.specs.Item.{IsBytes}
 use Rattle.nr_outside.specs.declared.moment.Moment.{Moment}
 use Rattle.nr_rpc.specs.Reading.{call_of, xid_of_call}
-use Rattle.nr_wire.specs.declared.hello.Side.TheVariants.{Initiator, Responder}
+use Rattle.nr_wire.specs.declared.hello.Side.TheVariants.{Responder}
 use Rattle.nr_reduce.specs.declared.call.Call.{Call}
 use Rattle.nr_reduce.specs.declared.call.Form.{Form}
 use Rattle.nr_reduce.specs.declared.call.Outcome.TheVariants as outcomes
@@ -17,11 +17,9 @@ use Rattle.nr_reduce.specs.declared.mark.Mark.TheVariants as marks
 use Rattle.nr_reduce.specs.declared.mark.TaggedEntry.{TaggedEntry}
 use Rattle.nr_reduce.specs.AtEachMark.{AtEachMark}
 use Rattle.nr_reduce.specs.Asked.{AskedMark, IsCompleted}
-use Rattle.nr_reduce.specs.ClientState.{ClientState, call_payload}
-use Rattle.nr_reduce.specs.Events.{RunEvent, events}
+use Rattle.nr_reduce.specs.ClientState.{call_payload}
+use Rattle.nr_reduce.specs.Events.{events}
 use Rattle.nr_reduce.specs.Events.RunEvent.{CallExecuted}
-use Rattle.nr_reduce.specs.EndRules.{EndState, end_state_after}
-use Rattle.nr_reduce.specs.Client.{client_rules, initial_client}
 use Rattle.nr_reduce.specs.History.{CompletedCall}
 use Rattle.nr_reduce.specs.KeepsCalls.{KeepsCalls}
 use Rattle.nr_reduce.specs.Matched.{MatchedMark, IsPrefixOf}
@@ -30,6 +28,8 @@ use Rattle.nr_reduce.specs.NumberedJournal.Standing.{Old, Kept, New}
 use Rattle.nr_reduce.specs.Run.{client}
 use Rattle.nr_reduce.specs.Served.{ServedMark, IsExecuted}
 use Rattle.nr_reduce.proofs.Calls.{executed_head}
+use Rattle.nr_reduce.proofs.LeftClients.{client_left}
+use Rattle.nr_reduce.proofs.OutcomesStay.{outcomes_stay}
 use Rattle.nr_reduce.proofs.Steps.{AtEachMark_first}
 use Rattle.nr_laws.specs.MarkAt.{MarkAt}
 use Rattle.nr_laws.specs.MatchedSoFar.{MatchedSoFar}
@@ -41,7 +41,7 @@ use Rattle.nr_laws.proofs.Basics.{some_is_lem}
 use Rattle.nr_laws.proofs.EarlierLinks.{InFirst, AfterFirst, mark_in_first, event_at_mark, execute_event, none_is, SameCall, LeftBy, left_by}
 use Rattle.nr_laws.proofs.EntriesApart.{no_entry_twice}
 use Rattle.nr_laws.proofs.ExecutedPayloads.{executes_have_plans}
-use Rattle.nr_laws.proofs.Following.{events_more, not_after_outcome}
+use Rattle.nr_laws.proofs.Following.{not_after_outcome}
 use Rattle.nr_laws.proofs.JournalPlaces.{get_left, get_last, journal_from, journal_parts, journal_more}
 use Rattle.nr_laws.proofs.KeptEntries.{entry_of, numbered, added_parts, adds_one, HaveSamePayload, kept_is}
 use Rattle.nr_laws.proofs.LaterMarks.{mark_later}
@@ -54,28 +54,7 @@ use Rattle.nr_laws.proofs.OwnPayloads.{payloads_are_own}
 use Rattle.nr_laws.proofs.OwnReplies.{executed_replies_are_handed_over}
 use Rattle.nr_laws.proofs.RepliedPlans.{replies_have_plans}
 
--- ---- Events, and first parts of a run
-
-no_rest : {X : Type 0} (xs ys : List X) → xs ++ ys ≡ xs → ys ≡ []
-no_rest xs [] e = refl
-no_rest xs (y ∷ ys) e = absurd (let n = ap (λ (zs : List _). length zs) e in let m = length-append xs (y ∷ ys) in omega (arith, n, m))
-
--- ---- A client whose events end early has its outcomes then
-
-client_as_then : (opened : LinkParameters) (link : ℕ) (run cut mid rest : List Mark) → run ≡ (cut ++ mid) ++ rest → events link Initiator run ≡ events link Initiator cut → client opened link (cut ++ mid) ≡ client opened link cut
-unfolding client
-client_as_then opened link run cut mid rest is left =
-    let one = events_more link Initiator cut mid in
-    let two = events_more link Initiator (cut ++ mid) rest in
-    let none : one.0 ++ two.0 ≡ [] =
-    no_rest (events link Initiator cut) (one.0 ++ two.0)
-    (sym (append_assoc (events link Initiator cut) one.0 two.0) ∙ ap (λ (es : List RunEvent). es ++ two.0) (sym one.1) ∙ sym two.1 ∙ ap (λ (r : List Mark). events link Initiator r) (sym is) ∙ left) in
-    let first : one.0 ≡ [] = front_none one.0 two.0 none in
-    ap (λ (es : List RunEvent). end_state_after (client_rules opened) (initial_client opened) es) (one.1 ∙ ap (λ (es : List RunEvent). events link Initiator cut ++ es) first ∙ append-nil (events link Initiator cut))
-  where
-    front_none : (xs ys : List RunEvent) → xs ++ ys ≡ [] → xs ≡ []
-    front_none [] ys e = refl
-    front_none (x ∷ xs) ys e = absurd cc
+-- ---- The first part of a run
 
 pub far_first : (opened : LinkParameters) (link : ℕ) (run cut rest : List Mark) → run ≡ cut ++ rest → MatchedSoFar opened link run → MatchedSoFar opened link cut
 far_first opened link run cut rest is far = record {
@@ -187,7 +166,7 @@ module _ (reply_to : List Entry → Moment → List ℕ → Option (List ℕ)) (
           whole : run ≡ front ++ execute ∷ (mid ++ own ∷ h.after)
           whole = h.is ∙ ap (λ (r : List Mark). r ++ own ∷ h.after) there ∙ append_assoc front (execute ∷ mid) (own ∷ h.after)
 
-          l : LeftBy run link e.began
+          l : LeftBy opened run link e.began
           l = left_by opened run link last old links (n, g)
 
           in_time : InFirst e.began front execute → ⊥
@@ -203,13 +182,11 @@ module _ (reply_to : List Entry → Moment → List ℕ → Option (List ℕ)) (
               there ∙ ap (λ (r : List Mark). r ++ execute ∷ mid) (a.is ∙ ap (λ (r : List Mark). r ++ a.between) l.is)
               ∙ append_assoc (l.cut ++ l.rest) a.between (execute ∷ mid) ∙ append_assoc l.cut l.rest (a.between ++ execute ∷ mid) in
               let run_is : run ≡ l.cut ++ (gap ++ own ∷ h.after) = h.is ∙ ap (λ (r : List Mark). r ++ own ∷ h.after) first_is ∙ append_assoc l.cut gap (own ∷ h.after) in
-              let before_is : before ≡ l.cut ++ (gap ++ own ∷ h.mid) = h.within ∙ ap (λ (r : List Mark). r ++ own ∷ h.mid) first_is ∙ append_assoc l.cut gap (own ∷ h.mid) in
               let completed : IsCompleted (opened link) link before xid (outcomes.Reply reply) = at_mark (AskedMark IsPrefixOf (opened link) link) run before (marks.Done link xid (outcomes.Reply reply)) done.after done.is far.asked refl in
               let c : CompletedCall = record { xid = xid; outcome = outcomes.Reply reply } in
-              let then : client (opened link) link (l.cut ++ (gap ++ own ∷ h.mid)) ≡ client (opened link) link l.cut =
-              client_as_then (opened link) link run l.cut (gap ++ own ∷ h.mid) (marks.Done link xid (outcomes.Reply reply) ∷ done.after) (done.is ∙ ap (λ (r : List Mark). r ++ marks.Done link xid (outcomes.Reply reply) ∷ done.after) before_is) l.left in
-              let received : Contains (client (opened link) link l.cut).state.outcomes c =
-              subst (λ (r : EndState ClientState). Contains r.state.outcomes c) (ap (λ (r : List Mark). client (opened link) link r) before_is ∙ then) completed.is_received in
+              let stays : Contains (client (opened link) link run).state.outcomes c =
+              subst (λ (r : List Mark). Contains (client (opened link) link r).state.outcomes c) (sym done.is) (outcomes_stay (opened link) link before (marks.Done link xid (outcomes.Reply reply) ∷ done.after) c completed.is_received) in
+              let received : Contains (client (opened link) link l.cut).state.outcomes c = subst (λ (cs : List CompletedCall). Contains cs c) (client_left (opened link) l.next link run l.cut l.left).1 stays in
               let near : MatchedSoFar (opened link) link l.cut = far_first (opened link) link run l.cut (gap ++ own ∷ h.after) run_is far in
               let early : IsTyped l.cut = AtEachMark_first TypedMark [] l.cut (gap ++ own ∷ h.after) (subst (AtEachMark TypedMark []) run_is typed) in
               not_after_outcome (opened link) link run l.cut gap h.after xid (outcomes.Reply reply) h.moment payload h.place reply typed far early near (outcome_said (opened link) link l.cut early near.asked near.served near.matched c received) run_is

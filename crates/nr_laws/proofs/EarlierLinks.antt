@@ -1,6 +1,7 @@
 -- A call that a client sends again, on whatever later link, is the one that it submitted under that xid.
 use Rattle.std.proofs.Common.{◌≡◌, ℕ, ◌<◌, ◌≤◌, List, [], ◌∷◌, ◌++◌, length, refl, sym, ap, subst, ◌∙◌, arith, eq-eqb, Bool, true, ◌&&◌, append_assoc, append-nil, ◌⊎◌, inl, inr, length-append}
 use Rattle.std.specs.List.{AllByRecursion}
+use Rattle.std.proofs.lemmas.List.{append_cancel_left}
 use Rattle.nr_outside.specs.declared.moment.Moment.{Moment}
 use Rattle.nr_wire.specs.declared.hello.Side.{Side}
 use Rattle.nr_wire.specs.declared.hello.Side.TheVariants.{Initiator, Responder}
@@ -14,7 +15,7 @@ use Rattle.nr_reduce.specs.declared.mark.ResumedCall.{ResumedCall}
 use Rattle.nr_reduce.specs.Asked.{AskedMark, AskedSoFar, IsAccepted}
 use Rattle.nr_reduce.specs.Matched.{IsPrefixOf}
 use Rattle.nr_reduce.specs.Opening.{IsOpened}
-use Rattle.nr_reduce.specs.Reopening.{calls_kept, reopened}
+use Rattle.nr_reduce.specs.Reopening.{IsLate, IsReopened, calls_kept, reopened}
 use Rattle.nr_reduce.specs.Events.{RunEvent, events, events_at, if_own}
 use Rattle.nr_reduce.specs.Events.RunEvent.{CallSubmitted, CallExecuted}
 use Rattle.nr_reduce.specs.History.{bytes_received}
@@ -22,7 +23,7 @@ use Rattle.nr_reduce.specs.Run.{client}
 use Rattle.nr_reduce.proofs.Placing.{xids_differ}
 use Rattle.nr_reduce.proofs.Steps.{events_one, AtEachMark_first}
 use Rattle.nr_laws.specs.OnceEach.{BegunLink, IsNextLink, GoesOn}
-use Rattle.nr_laws.proofs.Basics.{first_is_lem, rest_is_lem}
+use Rattle.nr_laws.proofs.Basics.{first_is_lem, rest_is_lem, each_right}
 use Rattle.nr_laws.proofs.OnceByXid.{at_mark}
 use Rattle.nr_laws.proofs.Ordered.{Order, order}
 use Rattle.nr_laws.proofs.Ordered.Order.{Here, Behind, Before}
@@ -82,10 +83,10 @@ execute_event link before xid moment payload at reply =
 pub none_is : {X : Type 0} (xs : List X) (x : X) (ys : List X) → xs ++ x ∷ ys ≡ [] → ⊥
 none_is xs x ys e = (let n = ap (λ (zs : List _). length zs) e in let m = length-append xs (x ∷ ys) in omega (arith, n, m))
 
--- A client that has no events after some marks of a run submitted all its calls before.
-pub submitted_in_time : (link : ℕ) (run cut rest before after : List Mark) (call : Call) (form : Form) (xid : ℕ) → run ≡ cut ++ rest → events link Initiator run ≡ events link Initiator cut
+-- A client that left its link after some marks of a run submitted all its calls there before.
+pub submitted_in_time : (opened next_opened : LinkParameters) (link : ℕ) (run cut before after : List Mark) (call : Call) (form : Form) (xid : ℕ) → IsReopened opened next_opened link run cut
     → run ≡ before ++ marks.Submit link call form (submissions.Accepted xid) ∷ after → InFirst cut before (marks.Submit link call form (submissions.Accepted xid))
-submitted_in_time link run cut rest before after call form xid first left is = by (mark_in_first run cut rest before submit after first is)
+submitted_in_time opened next_opened link run cut before after call form xid r is = by (mark_in_first run cut r.after before submit after r.is_cut is)
   where
     submit : Mark
     submit = marks.Submit link call form (submissions.Accepted xid)
@@ -97,11 +98,12 @@ submitted_in_time link run cut rest before after call form xid first left is = b
     wrong h =
         let all = event_at_mark link Initiator before submit e after (submit_event link before call form xid) in
         let more = events_more link Initiator cut h.between in
-        let longer : events link Initiator cut ++ (more.0 ++ e ∷ all.0) ≡ events link Initiator cut =
+        let both : events link Initiator cut ++ (more.0 ++ e ∷ all.0) ≡ events link Initiator cut ++ r.late =
         sym (append_assoc (events link Initiator cut) more.0 (e ∷ all.0))
         ∙ ap (λ (es : List RunEvent). es ++ e ∷ all.0) (sym (ap (λ (r : List Mark). events link Initiator r) h.is ∙ more.1))
-        ∙ sym all.1 ∙ ap (λ (r : List Mark). events link Initiator r) (sym is) ∙ left in
-        (let n = ap (λ (zs : List RunEvent). length zs) longer in let m = length-append (events link Initiator cut) (more.0 ++ e ∷ all.0) in let l = length-append more.0 (e ∷ all.0) in omega (arith, n, m, l))
+        ∙ sym all.1 ∙ ap (λ (r : List Mark). events link Initiator r) (sym is) ∙ r.left in
+        let late : r.late ≡ more.0 ++ e ∷ all.0 = sym (append_cancel_left (events link Initiator cut) (more.0 ++ e ∷ all.0) r.late both) in
+        (each_right (IsLate opened link cut) more.0 (e ∷ all.0) (subst (AllByRecursion (IsLate opened link cut)) late r.harmless)).0
 
     by : InFirst cut before submit ⊎ AfterFirst cut before → InFirst cut before submit
     by (inl h) = h
@@ -125,7 +127,7 @@ pub xid_below : (opened : ℕ → LinkParameters) (run : List Mark) (first : ℕ
 xid_below opened run first before rest call form xid is link old [] (keeps, none) (n, e) =
     let cut = n.reopened in
     let here : run ≡ before ++ marks.Submit old.link call form (submissions.Accepted xid) ∷ rest = is ∙ ap (λ (l : ℕ). before ++ marks.Submit l call form (submissions.Accepted xid) ∷ rest) (sym e) in
-    let in_time = submitted_in_time old.link run link.began cut.after before rest call form xid cut.is_cut cut.left here in
+    let in_time = submitted_in_time (opened old.link) (opened link.link) old.link run link.began before rest call form xid cut here in
     let asked : AskedSoFar (opened old.link) old.link link.began = AtEachMark_first (AskedMark IsPrefixOf (opened old.link) old.link) [] link.began cut.after (subst (AskedSoFar (opened old.link) old.link) cut.is_cut keeps.asked) in
     let below = accepted_below (opened old.link) old.link link.began before in_time.rest call form xid keeps.opens asked in_time.is in
     let next = (next_opening opened run old link n).0 in
@@ -215,21 +217,23 @@ each_earlier opened run first link [] Q g f = tt
 each_earlier opened run first link (old ∷ links) Q (n, g) f =
     (f old (old ∷ []) (n, refl), each_earlier opened run first old links Q g (λ earlier part h. f earlier (old ∷ part) (n, h)))
 
--- ---- The client of a link that was left has no events after that
+-- ---- The client of a link that was left submits no call after that
 
-pub record LeftBy (run : List Mark) (first : ℕ) (began : List Mark) : Type 0 where
+pub record LeftBy (opened : ℕ → LinkParameters) (run : List Mark) (first : ℕ) (began : List Mark) : Type 0 where
+  pub next : LinkParameters
   pub cut : List Mark
   pub rest : List Mark
   pub is : began ≡ cut ++ rest
-  pub left : events first Initiator run ≡ events first Initiator cut
+  pub left : IsReopened (opened first) next first run cut
 
-pub left_by : (opened : ℕ → LinkParameters) (run : List Mark) (first : ℕ) (link old : BegunLink) (links : List BegunLink) → GoesOn opened run first link (old ∷ links) → LeftBy run first link.began
+pub left_by : (opened : ℕ → LinkParameters) (run : List Mark) (first : ℕ) (link old : BegunLink) (links : List BegunLink) → GoesOn opened run first link (old ∷ links) → LeftBy opened run first link.began
 left_by opened run first link old [] (n, e) = record {
+  next = opened link.link;
   cut = link.began;
   rest = [];
   is = sym (append-nil link.began);
-  left = subst (λ (l : ℕ). events l Initiator run ≡ events l Initiator link.began) e n.reopened.left;
+  left = subst (λ (l : ℕ). IsReopened (opened l) (opened link.link) l run link.began) e n.reopened;
 }
 left_by opened run first link old (older ∷ links) (n, g) =
     let h = left_by opened run first old older links g in
-    record { cut = h.cut; rest = h.rest ++ n.gap; is = n.later ∙ ap (λ (r : List Mark). r ++ n.gap) h.is ∙ append_assoc h.cut h.rest n.gap; left = h.left }
+    record { next = h.next; cut = h.cut; rest = h.rest ++ n.gap; is = n.later ∙ ap (λ (r : List Mark). r ++ n.gap) h.is ∙ append_assoc h.cut h.rest n.gap; left = h.left }

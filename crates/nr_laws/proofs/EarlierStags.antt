@@ -12,7 +12,7 @@ use Rattle.nr_reduce.specs.Client.{client_rules, initial_client}
 use Rattle.nr_reduce.specs.ClientState.{ClientState}
 use Rattle.nr_reduce.specs.Reopening.{reopened}
 use Rattle.nr_reduce.specs.Run.{client}
-use Rattle.nr_reduce.proofs.NewStags.{client_left}
+use Rattle.nr_reduce.proofs.LeftClients.{client_left}
 use Rattle.nr_reduce.proofs.OwnStags.{AreNumbered, client_numbers, client_known}
 use Rattle.nr_laws.specs.OnceEach.{BegunLink, IsNextLink, GoesOn}
 use Rattle.nr_laws.specs.Reopened.{EarlierStagsAreDead}
@@ -60,7 +60,7 @@ first_stag opened run old link n = ap (λ (o : LinkParameters). o.first_stag) n.
 
 stags_above : (opened : ℕ → LinkParameters) (run : List Mark) (first : ℕ) (link old : BegunLink) (links : List BegunLink) → GoesOn opened run first link (old ∷ links) → (client (opened first) first run).state.stag ≤ (opened link.link).first_stag
 stags_above opened run first link old [] (n, same) =
-    let left = ap (λ (s : EndState ClientState). s.state.stag) (client_left (opened old.link) (opened link.link) old.link run link.began n.reopened) in
+    let left = (client_left (opened old.link) (opened link.link) old.link run link.began n.reopened).0 in
     let next = first_stag opened run old link n in
     let here : (client (opened old.link) old.link run).state.stag ≤ (opened link.link).first_stag = omega (arith, left, next) in
     subst (λ (l : ℕ). (client (opened l) l run).state.stag ≤ (opened link.link).first_stag) same here

@@ -14,13 +14,12 @@ use Rattle.nr_reduce.specs.declared.mark.Mark.TheVariants as marks
 use Rattle.nr_reduce.specs.declared.mark.ResumedCall.{ResumedCall}
 use Rattle.nr_reduce.specs.Asked.{AskedMark, AskedSoFar, IsAccepted, IsCompleted}
 use Rattle.nr_reduce.specs.ClientState.{ClientState, OutstandingCall, WaitingCall}
-use Rattle.nr_reduce.specs.EndRules.{EndState}
 use Rattle.nr_reduce.specs.History.{AcceptedCall, CompletedCall, accepted_calls, is_abandoned}
 use Rattle.nr_reduce.specs.Matched.{IsPrefixOf}
 use Rattle.nr_reduce.specs.Reopening.{resumed_as, resumed_of, resumed_again, calls_kept}
 use Rattle.nr_reduce.specs.Run.{client}
 use Rattle.nr_reduce.specs.SubmitAnswer.{next_sent_xid}
-use Rattle.nr_reduce.proofs.NewStags.{client_left}
+use Rattle.nr_reduce.proofs.LeftClients.{client_left}
 use Rattle.nr_reduce.proofs.OutcomesStay.{outcomes_stay}
 use Rattle.nr_reduce.proofs.Steps.{AtEachMark_first}
 use Rattle.nr_laws.specs.MarkAt.{MarkAt}
@@ -105,7 +104,7 @@ module _ (opened : ℕ → LinkParameters) (run : List Mark) (typed : IsTyped ru
         let c : CompletedCall = record { xid = xid; outcome = outcome } in
         let near : Contains (client (opened old.link) old.link run).state.outcomes c = subst (λ (l : ℕ). Contains (client (opened l) l run).state.outcomes c) (sym e) came in
         let then : Contains (client (opened old.link) old.link cut).state.outcomes c =
-        subst (λ (s : ClientState). Contains s.outcomes c) (ap (λ (s : EndState ClientState). s.state) (client_left (opened old.link) (opened link.link) old.link run cut r)) near in
+        subst (λ (cs : List CompletedCall). Contains cs c) (client_left (opened old.link) (opened link.link) old.link run cut r).1 near in
         let asked : AskedSoFar (opened old.link) old.link cut = AtEachMark_first (AskedMark IsPrefixOf (opened old.link) old.link) [] cut r.after (subst (AskedSoFar (opened old.link) old.link) r.is_cut keeps.asked) in
         let typed_cut : IsTyped cut = AtEachMark_first TypedMark [] cut r.after (subst IsTyped r.is_cut typed) in
         not_kept (opened old.link) old.link cut xid other way (outcome_gone (opened old.link) old.link cut c keeps.opens typed_cut asked then)

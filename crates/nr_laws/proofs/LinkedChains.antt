@@ -44,7 +44,7 @@ module _ (opened : ℕ → LinkParameters) (run : List Mark) (mid : ℕ) (front 
       left = subst (λ (l : ℕ). IsReopened (opened l) (opened last.link) l run last.began) same n.reopened
 
       in_time : InFirst last.began front submit
-      in_time = submitted_in_time mid run last.began left.after front back call form xid left.is_cut left.left here
+      in_time = submitted_in_time (opened mid) (opened last.link) mid run last.began front back call form xid left here
 
       by : InFirst began front submit ⊎ AfterFirst began front → (gap : List Mark) × (last.began ≡ began ++ gap)
       by (inl f) =

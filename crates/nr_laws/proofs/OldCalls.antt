@@ -28,7 +28,7 @@ use Rattle.nr_reduce.specs.Matched.{MatchedMark, IsPrefixOf}
 use Rattle.nr_reduce.specs.NumberedJournal.{Standing, standing, standing_for, top_of, largest_xid, place_of_entry, kept_or_new, tagged_journal, number_heard, IsOld, NumberedMark}
 use Rattle.nr_reduce.specs.NumberedJournal.Standing.{Old, New}
 use Rattle.nr_reduce.specs.Opening.{IsOpened}
-use Rattle.nr_reduce.specs.Reopening.{calls_kept}
+use Rattle.nr_reduce.specs.Reopening.{IsReopened, calls_kept}
 use Rattle.nr_reduce.specs.Run.{client}
 use Rattle.nr_reduce.specs.Served.{ServedMark, IsExecuted, IsRefusedAsOld}
 use Rattle.nr_reduce.specs.SubmitAnswer.{next_sent_xid}
@@ -206,15 +206,15 @@ was_new opened run first none link (old ∷ links) (keeps, others) (n, g) xid ca
 
 module _ (opened : ℕ → LinkParameters) (run : List Mark) (typed : IsTyped run) (first : ℕ) (accepts : AcceptsByRule (opened first) first run) (top xid : ℕ) (far : xid + window ≤ top) (new : IsNewOn opened run first top) where
   -- on the link on which that was submitted
-  kept_near : (cut rest : List Mark) → IsOpened (opened first) → AskedSoFar (opened first) first run → (opened first).client.number ≢ 0 → run ≡ cut ++ rest → events first Initiator run ≡ events first Initiator cut
+  kept_near : (next_opened : LinkParameters) (cut : List Mark) → IsOpened (opened first) → AskedSoFar (opened first) first run → IsReopened (opened first) next_opened first run cut
       → (call : Call) (form : Form) → IsOneOf (calls_kept (opened first) first cut) xid call form → ⊥
-  kept_near cut rest opens asked numbered is left call form one = by (is_outstanding k.outstanding xid) refl
+  kept_near next_opened cut opens asked r call form one = by (is_outstanding k.outstanding xid) refl
     where
       submit : Mark
       submit = marks.Submit first new.call new.form (submissions.Accepted top)
 
       in_time : InFirst cut new.before submit
-      in_time = submitted_in_time first run cut rest new.before new.after new.call new.form top is left new.is
+      in_time = submitted_in_time (opened first) next_opened first run cut new.before new.after new.call new.form top r new.is
 
       k : ClientState
       k = (client (opened first) first new.before).state
@@ -229,14 +229,14 @@ module _ (opened : ℕ → LinkParameters) (run : List Mark) (typed : IsTyped ru
       accepted = at_mark (AskedMark IsPrefixOf (opened first) first) run new.before submit new.after new.is asked refl
 
       typed_cut : IsTyped cut
-      typed_cut = AtEachMark_first TypedMark [] cut rest (subst IsTyped is typed)
+      typed_cut = AtEachMark_first TypedMark [] cut r.after (subst IsTyped r.is_cut typed)
 
       asked_cut : AskedSoFar (opened first) first cut
-      asked_cut = AtEachMark_first (AskedMark IsPrefixOf (opened first) first) [] cut rest (subst (AskedSoFar (opened first) first) is asked)
+      asked_cut = AtEachMark_first (AskedMark IsPrefixOf (opened first) first) [] cut r.after (subst (AskedSoFar (opened first) first) r.is_cut asked)
 
       by : (b : Bool) → is_outstanding k.outstanding xid ≡ b → ⊥
       by true out =
-          (let near = near_outstanding (opened first) first run new.before new.after new.call new.form top xid opens (rises_of (opened first) first new.before opens typed_then asked_then) accepts numbered new.is new.new out in
+          (let near = near_outstanding (opened first) first run new.before new.after new.call new.form top xid opens (rises_of (opened first) first new.before opens typed_then asked_then) accepts r.numbered new.is new.new out in
           omega (arith, near, far))
       by false out =
           let next = accepted.next in
@@ -251,10 +251,9 @@ module _ (opened : ℕ → LinkParameters) (run : List Mark) (typed : IsTyped ru
   -- and on no later one
   resumed_near : (link old : BegunLink) (links : List BegunLink) → AllByRecursion (LinkKeeps opened run) (old ∷ links) → GoesOn opened run first link (old ∷ links) → (call : Call) (form : Form) → IsOneOf (opened link.link).resumed xid call form → ⊥
   resumed_near link old [] (keeps, none) (n, same) call form one =
-      let r = n.reopened in
       let kept : IsOneOf (calls_kept (opened old.link) old.link link.began) xid call form = subst (λ (rs : List ResumedCall). IsOneOf rs xid call form) (next_opening opened run old link n).1 one in
-      kept_near link.began r.after (subst (λ (l : ℕ). IsOpened (opened l)) same keeps.opens) (subst (λ (l : ℕ). AskedSoFar (opened l) l run) same keeps.asked)
-      (subst (λ (l : ℕ). (opened l).client.number ≢ 0) same r.numbered) r.is_cut (subst (λ (l : ℕ). events l Initiator run ≡ events l Initiator link.began) same r.left) call form
+      kept_near (opened link.link) link.began (subst (λ (l : ℕ). IsOpened (opened l)) same keeps.opens) (subst (λ (l : ℕ). AskedSoFar (opened l) l run) same keeps.asked)
+      (subst (λ (l : ℕ). IsReopened (opened l) (opened link.link) l run link.began) same n.reopened) call form
       (subst (λ (l : ℕ). IsOneOf (calls_kept (opened l) l link.began) xid call form) same kept)
   resumed_near link old (older ∷ links) (keeps, others) (n, g) call form one =
       by (λ other way again. resumed_near old older links others g other way again)

@@ -35,12 +35,11 @@ use Rattle.nr_laws.proofs.OnceByXid.{at_mark, one_submit}
 -- ---- After a mark of a link that was left
 
 -- what comes after a link began comes after all that its client did on a link before it
-after_left : (run front began : List Mark) (first : ℕ) (call : Call) (form : Form) (xid : ℕ) (back after : List Mark) (p : List Mark) → run ≡ front ++ marks.Submit first call form (submissions.Accepted xid) ∷ back → run ≡ began ++ after
-    → LeftBy run first began → AfterFirst began p → AfterFirst front p
-after_left run front began first call form xid back after p here cut l a =
+after_left : (opened : ℕ → LinkParameters) (run front began : List Mark) (first : ℕ) (call : Call) (form : Form) (xid : ℕ) (back p : List Mark) → run ≡ front ++ marks.Submit first call form (submissions.Accepted xid) ∷ back
+    → LeftBy opened run first began → AfterFirst began p → AfterFirst front p
+after_left opened run front began first call form xid back p here l a =
     let submit : Mark = marks.Submit first call form (submissions.Accepted xid) in
-    let run_is : run ≡ l.cut ++ (l.rest ++ after) = cut ∙ ap (λ (r : List Mark). r ++ after) l.is ∙ append_assoc l.cut l.rest after in
-    let f = submitted_in_time first run l.cut (l.rest ++ after) front back call form xid run_is l.left here in
+    let f = submitted_in_time (opened first) l.next first run l.cut front back call form xid l.left here in
     record {
       between = submit ∷ (f.rest ++ (l.rest ++ a.between));
       is = a.is ∙ ap (λ (r : List Mark). r ++ a.between) (l.is ∙ ap (λ (r : List Mark). r ++ l.rest) f.is)
@@ -90,7 +89,7 @@ module _ (opened : ℕ → LinkParameters) (run : List Mark) (typed : IsTyped ru
       new old links (n, g) = by_place (mark_in_first run e.began n.reopened.after p submit q n.reopened.is_cut there)
         where
           by_place : InFirst e.began p submit ⊎ AfterFirst e.began p → AfterFirst front p
-          by_place (inr a) = after_left run front e.began other call form xid back n.reopened.after p here n.reopened.is_cut (left_by opened run other last old links (n, g)) a
+          by_place (inr a) = after_left opened run front e.began other call form xid back p here (left_by opened run other last old links (n, g)) a
           by_place (inl f) =
               let event : RunEvent = CallSubmitted (length (bytes_received link Initiator p)) (record { xid = xid; call = again; form = way }) in
               let all = event_at_mark link Initiator p submit event f.rest (submit_event link p again way xid) in
@@ -130,7 +129,7 @@ module _ (opened : ℕ → LinkParameters) (run : List Mark) (typed : IsTyped ru
           by_place (inr a) =
               let x = submitted_before (opened link) link run s t xid moment payload place reply typed near executed in
               let first = later_submit link far e x.before x.after x.call x.form x.is in
-              let own = after_left run x.before n.began link x.call x.form xid x.after m.reopened.after p x.is m.reopened.is_cut (left_by opened run link last old links (m, g)) a in
+              let own = after_left opened run x.before n.began link x.call x.form xid x.after p x.is (left_by opened run link last old links (m, g)) a in
               subst (AfterFirst front) (sym own.is) (after_more front x.before own.between first)
           by_place (inl f) =
               let event : RunEvent = CallExecuted (record { xid = xid; moment = now; payload = bytes; place = at; reply = answer }) in
