@@ -112,7 +112,7 @@ ReadsNone b b' = (b'.left ≡ b.left) × ((b'.given ≡ b.given) × (b'.read ≡
 abbrev pub HasCreditLeft : RequesterSide → Type 0
 HasCreditLeft h = may_submit h.state ≡ true
 
--- none may be: no credit is left, or the next xid is too far above the least one
+-- no call may be submitted: no credit is left, or the next xid is too far above the least one
 abbrev pub LacksCredit : RequesterSide → Type 0
 LacksCredit h = may_submit h.state ≡ false
 
