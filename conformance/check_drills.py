@@ -3,11 +3,10 @@
     python3 conformance/check_drills.py [--only WORD] [--jobs N] [--drains]
     python3 conformance/check_drills.py --record PROGRAM
 
-It takes the scripts of scripts.json.gz that run, and those of drills.json.gz, with what the built nfsrdma printed of them; and those
-of rejoin_scripts.json.gz: their clients have numbers, so they are no scripts yet, and are read line by line. Of a script that is
-generated it also evaluates the generator, whose script must be what the text says, and the line of sums. The replies of the plain
-server are those recorded in plain_scripts.json.gz; with --record they are asked of the built plain_calls, and recorded. With
---drains it makes each drain step by step, and asks that each step of a link that moves something leaves less work, as long as no
+It takes the scripts of scripts.json.gz and of rejoin_scripts.json.gz that run, and those of drills.json.gz, with what the built nfsrdma
+printed of them. Of a script that is generated it also evaluates the generator, whose script must be what the text says, and the line
+of sums. The replies of the plain server are those recorded in plain_scripts.json.gz and plain_rejoin.json.gz; with --record those of
+the first are asked of the built plain_calls, and recorded. With --drains it makes each drain step by step, and asks that each step of a link that moves something leaves less work, as long as no
 line before put bytes into the pipes of the link. Exit status: 0 all agree, 1 some differ, 2 nothing could be run."""
 import argparse
 import gzip
@@ -21,22 +20,19 @@ from typing import Any
 
 from antt import ROOT, Project
 from check_definitions import HERE, NAMES, RUNS, Names, Recorded, recorded, shorten
-from compare_scripts import SCRIPTS
+from compare_scripts import recorded_scripts
 from ends import Ends
-from values import NONE, CannotEvaluate, Con, Fn, Value, call, deeply, show, some
+from values import NONE, CannotEvaluate, Fn, Value, call, deeply, show, some
 
 PLAIN = os.path.join(HERE, 'plain_scripts.json.gz')
 DRILLS = os.path.join(HERE, 'drills.json.gz')
-# scripts in which clients begin further links, and the plain server's replies to their calls
-REJOIN = os.path.join(HERE, 'rejoin_scripts.json.gz')
+# the same of scripts in which clients begin further links
 REJOIN_PLAIN = os.path.join(HERE, 'plain_rejoin.json.gz')
 ROUNDS_MAX = 10_000
 USES = (
     'use Rattle.nr_plain.specs.Added.{entries_of_call}',
     'use Rattle.nr_script.specs.Script.{script_of}',
     'use Rattle.nr_script.specs.Generator.{made_script}',
-    'use Rattle.nr_script.specs.Lines.{line_in}',
-    'use Rattle.nr_texts.specs.Openings.{opening_in}',
     'use Rattle.std.specs.Prelude.{length}',
     'use Rattle.nr_reduce.specs.Run.{server}',
     'use Rattle.nr_drill.specs.Drill.{pipes_of, after_round, setting_now}',
@@ -48,7 +44,6 @@ USES = (
 )
 ROLES = {
     'adds': 'λ moment payload reply. entries_of_call moment payload reply', 'script_of': 'λ text. script_of text',
-    'first': 'λ words. opening_in words', 'other': 'λ words. line_in words',
     'now': 'λ setting drill. setting_now setting drill', 'round': 'λ setting links drill. after_round setting links drill',
     'line': 'λ setting line drill. after_line setting line drill', 'still': 'λ setting drill link. is_still setting drill link',
     'setting': 'λ server opening. setting_of server opening', 'opened': 'λ server opening. opened_drill server opening',
@@ -104,15 +99,8 @@ class Drills:
         return call(self.role[role], *args)
 
     def read(self, text: str) -> Value:
-        """What a text says: a script, or the number of its first invalid line. If its clients have numbers, what its lines say."""
-        lines = [line for line in text.split('\n') if line and not line.startswith('#')]
-        read = self.ask('script_of', list(text.encode('latin-1')))
-        if 'numbered' not in lines[0].split(' ') or read.n == 'Ok':
-            return read
-        words = [[list(word.encode('latin-1')) for word in line.split(' ')] for line in lines]
-        parts = [self.ask('first', words[0]), *(self.ask('other', w) for w in words[1:])]
-        bad = [i + 1 for i, part in enumerate(parts) if part == NONE]
-        return Con('Err', bad[0]) if bad else Con('Ok', {'opening': parts[0].a[0], 'lines': [part.a[0] for part in parts[1:]]})
+        """What a text says: a script, or the number of its first invalid line."""
+        return self.ask('script_of', list(text.encode('latin-1')))
 
     def made(self, script: Value, answers: Answers) -> tuple[Value, Value]:
         """What a script is made with, and the drill after its last line."""
@@ -242,13 +230,13 @@ def check(script: Recorded) -> tuple[str, str | None, dict[str, str]]:
         return script['name'], "can't be evaluated: %r (%s)" % (e, ' '.join(x.strip() for x in lines[-3:-1])), answers
 
 
-def recorded_scripts() -> list[Recorded]:
+def scripts_that_run() -> list[Recorded]:
     """The scripts of all files; drills.json.gz may be missing."""
-    scripts: list[Recorded] = []
-    for path in filter(os.path.exists, (SCRIPTS, DRILLS, REJOIN)):
-        with gzip.open(path, 'rt', encoding='utf-8') as h:
-            scripts += [s for s in json.load(h) if s['status'] == 0]
-    return scripts
+    scripts = recorded_scripts()
+    if os.path.exists(DRILLS):
+        with gzip.open(DRILLS, 'rt', encoding='utf-8') as h:
+            scripts += json.load(h)
+    return [s for s in scripts if s['status'] == 0]
 
 
 def main(argv: list[str]) -> int:
@@ -259,7 +247,7 @@ def main(argv: list[str]) -> int:
     p.add_argument('--record', metavar='PROGRAM', help='ask the built plain_calls, and record its replies')
     p.add_argument('--jobs', type=int, default=os.cpu_count() or 1)
     a = p.parse_args(argv)
-    scripts = [s for s in recorded_scripts() if a.only in s['name']]
+    scripts = [s for s in scripts_that_run() if a.only in s['name']]
     plain: dict[str, dict[str, str]] = {}
     if os.path.exists(PLAIN):
         with gzip.open(PLAIN, 'rt', encoding='utf-8') as h:

@@ -4,16 +4,14 @@
 
 Exit status: 0 all agree, 1 some differ, 2 nothing could be run."""
 import argparse
-import gzip
-import json
 import multiprocessing
 import os
 import sys
 from typing import Any
 
 from antt import ROOT, Project
-from compare_scripts import SCRIPTS
 from check_definitions import Recorded
+from compare_scripts import recorded_scripts
 from values import CannotEvaluate, Value, call, deeply
 
 MODULE, NAME = 'Rattle.nr_script.specs.Script', 'script_of'
@@ -45,8 +43,7 @@ def main(argv: list[str]) -> int:
     p.add_argument('--only', default='', help='scripts whose name has this word')
     p.add_argument('--jobs', type=int, default=os.cpu_count() or 1)
     a = p.parse_args(argv)
-    with gzip.open(SCRIPTS, 'rt', encoding='utf-8') as h:
-        scripts = [s for s in json.load(h) if a.only in s['name']]
+    scripts = recorded_scripts(a.only)
     try:
         prepare(a.project)
     except CannotEvaluate as e:

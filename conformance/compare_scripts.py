@@ -16,7 +16,18 @@ from antt import ROOT
 from check_definitions import HERE, Recorded, shorten
 
 PROGRAM = os.path.join(ROOT, 'crates', 'nfsrdma', 'out', 'nfsrdma')
+# the recorded scripts, and those whose clients have numbers and go on over further links
 SCRIPTS = os.path.join(HERE, 'scripts.json.gz')
+REJOIN = os.path.join(HERE, 'rejoin_scripts.json.gz')
+
+
+def recorded_scripts(only: str = '') -> list[Recorded]:
+    """The scripts of both files whose name has this word."""
+    scripts: list[Recorded] = []
+    for path in (SCRIPTS, REJOIN):
+        with gzip.open(path, 'rt', encoding='utf-8') as h:
+            scripts += [s for s in json.load(h) if only in s['name']]
+    return scripts
 
 
 def difference(program: str, script: Recorded) -> str | None:
@@ -37,8 +48,7 @@ def main(argv: list[str]) -> int:
     p.add_argument('--only', default='', help='scripts whose name has this word')
     p.add_argument('--jobs', type=int, default=os.cpu_count() or 1)
     a = p.parse_args(argv)
-    with gzip.open(SCRIPTS, 'rt', encoding='utf-8') as h:
-        scripts = [s for s in json.load(h) if a.only in s['name']]
+    scripts = recorded_scripts(a.only)
     if not scripts or not os.path.exists(a.program):
         print('no script is chosen' if not scripts else 'no program at %s' % a.program)
         return 2

@@ -3,12 +3,13 @@
     python3 conformance/random_drills.py [--seed N] [--scripts N] [--lines N] [--program NFSRDMA] [--plain PLAIN_CALLS] [--jobs N]
 
 Half of the scripts have lines call, up, work, down and grant, and a drain at the end; the other half also have bytes of a peer that keeps to no
-rule, on links whose calls change nothing. Some calls, most of them after a drain, are large: READs and WRITEs of up to 1,048,577 bytes in each
-form, offers and payloads at 1,056,768 bytes and one more. Of each script: the status is 0, nothing is reported, each call line has one printed
-line; a call is refused for what it offers or its payload if that is more than 1,056,768 bytes, with this number, and no other is; each call that
-is done has the reply that plain_calls gives at its place, and the places of the changes are 0, 1, 2 and so on up to the journal's
-length; and what ended a side of a link in the first half of a script ends it in the complete script. A link without such bytes doesn't
-end, and all its calls are done or refused. Exit status: 0 all as expected, 1 something differs, 2 there is no program."""
+rule, on links whose calls change nothing. In four of ten the clients have numbers: they drop links, leave them and go on over further ones. Some
+calls, most of them after a drain, are large: READs and WRITEs of up to 1,048,577 bytes in each form, offers and payloads at 1,056,768 bytes and
+one more. Of each script: the status is 0, nothing is reported, each call line has one printed line; a call is refused for what it offers or its
+payload if that is more than 1,056,768 bytes, with this number, and no other is; each call that is done has the reply that plain_calls gives at
+its place, and the places of the changes are 0, 1, 2 and so on up to the journal's length; and what ended a side of a link in the first half of a
+script ends it in the complete script, unless its client left it. A link without such bytes doesn't end, and all its calls are done or refused.
+Exit status: 0 all as expected, 1 something differs, 2 there is no program."""
 import argparse
 import os
 import random
@@ -30,8 +31,8 @@ LARGE_CALLS, LARGE_WRITES = 8, 3
 CHANGING = (2, 7, 8, 9, 10, 11, 12, 13, 14, 15)
 READING = (0, 1, 3, 4, 5, 6, 16, 17, 18, 19, 20, 21)
 NAMES = (b'hello', b'link', b'many', b'f00', b'f99', b'.', b'..', b'', b'a/b', b'n' * 255, b'n' * 256) + tuple(b'new%d' % n for n in range(24))
-PRINTED = re.compile(r'(\d+) (\d+) (place (\d+) reply ([0-9a-f]+)|place \d+ chunk|chunk|lost|open|refused (?:credit|large|ended).*)')
-ENDED = re.compile(r'link \d+ (?:client|server) (?:bad|denied|nobuffer|terminated) .*')
+PRINTED = re.compile(r'(\d+) (\d+) (place (\d+) reply ([0-9a-f]+)|place \d+ chunk|chunk|lost|open|refused (?:credit|large|ended|window).*)')
+ENDED = re.compile(r'link \d+ (?:(?:client|server) (?:bad|denied|nobuffer|terminated) .*|dropped)')
 
 
 class Call(NamedTuple):
@@ -74,7 +75,9 @@ class Maker:
         self.hostile = [c for c in range(1, self.clients + 1) if hostile and (c == 1 or self.rng.random() < 0.4)]
         self.creds = {c: words(0, 0, 0, 0) for c in range(1, self.clients + 1)}
         self.calls: list[Call] = []
-        self.lines = ['clients %d credits %d' % (self.clients, self.credits)]
+        # those that dropped their link, and the line at which each client last left one
+        self.numbered, self.dropped, self.left = self.rng.random() < 0.4, set[int](), dict[int, int]()
+        self.lines = ['clients %d credits %d' % (self.clients, self.credits) + ' numbered' * self.numbered]
         for c in self.creds:
             if self.rng.random() < 0.7:
                 uid, gid = self.rng.choice(((0, 0), (5, 6)))
@@ -84,13 +87,15 @@ class Maker:
         self.writes = 0
         for at in range(lines):
             self.lines += self.large() if at in large else [self.line()]
-        self.lines.append('drain')
+        self.lines += [self.leave(c) for c in sorted(self.dropped)] + ['drain']
 
     def text(self, lines: int) -> str:
         return ''.join(it + '\n' for it in self.lines[:lines])
 
     def line(self) -> str:
         c = self.rng.randint(1, self.clients)
+        if self.numbered and (c in self.dropped or self.rng.random() < 0.02):
+            return self.leave(c)
         if c in self.hostile and self.rng.random() < 0.003:
             return 'raw %d %s %s' % (c, self.rng.choice(('up', 'down')), self.raw().hex())
         if self.rng.random() < 0.04:
@@ -99,6 +104,15 @@ class Maker:
         if kind == 'call':
             return self.call(c)
         return 'work %d' % c if kind == 'work' else '%s %d %d' % (kind, c, self.rng.choice((1, 19, 92, 200, 1000, 4096, 4294967295)))
+
+    def leave(self, c: int) -> str:
+        """A client goes on over its next link, or drops its link before."""
+        if c not in self.dropped and self.rng.random() < 0.3:
+            self.dropped.add(c)
+            return 'drop %d' % c
+        self.dropped.discard(c)
+        self.left[c] = len(self.lines)
+        return 'rejoin %d' % c
 
     def raw(self) -> bytes:
         """Random bytes; a frame with a random ULPDU; or a Terminate, an RDMA Write, a Read Request or a Send with a random message."""
@@ -135,7 +149,7 @@ class Maker:
         c = r.randint(1, self.clients)
         size = r.choice(LARGE_SIZES + (r.randint(SEGMENT, TRANSFER_MAX + 1),))
         handle = opaque((2).to_bytes(8, 'big')) if r.random() < 0.7 else self.handle()
-        before = ['drain'] if r.random() < 0.8 else []
+        before = ([self.leave(c)] if c in self.dropped else []) + ['drain'] * (r.random() < 0.8)
         if c in self.hostile or self.writes == LARGE_WRITES or r.random() < 0.4:
             args = handle + words(0, r.choice((0, 0, 5, SEGMENT, TRANSFER_MAX))) + words(size)
             return before + [self.call_line(c, self.large_form(), 'nfs', 6, args)]
@@ -251,7 +265,8 @@ def differences(program: str, plain: str, maker: Maker) -> list[str]:
         return wrong + wrong_half
     done, wrong = done_calls(maker, printed)
     ends = [it for it in printed[len(maker.calls):-1] if ENDED.fullmatch(it)]
-    wrong += ['gone: %s' % it for it in half if ENDED.fullmatch(it) and it not in ends]
+    stayed = [it for it in half if ENDED.fullmatch(it) and maker.left.get(int(it.split(' ')[1]), 0) < len(maker.lines) // 2]
+    wrong += ['gone: %s' % it for it in stayed if it not in ends]
     wrong += ['a link without raw bytes: %s' % it for it in ends if int(it.split(' ')[1]) not in maker.hostile]
     if len(printed) != len(maker.calls) + len(ends) + 1 or not printed[-1].startswith('journal '):
         return wrong + ['%d lines are printed, the last: %s' % (len(printed), printed[-1][:100])]

@@ -5,8 +5,6 @@
 It makes a program over nr_script in a temporary copy of the repository and runs it by `rt try`, so nothing is proved here.
 Exit status: 0 all agree, 1 some differ, 2 nothing could be run."""
 import argparse
-import gzip
-import json
 import os
 import shutil
 import subprocess
@@ -14,7 +12,7 @@ import sys
 import tempfile
 
 from antt import ROOT
-from compare_scripts import SCRIPTS
+from compare_scripts import recorded_scripts
 
 NAME = 'script_reader'
 # each text comes as its length, four bytes, and its bytes; for each there is a line: its lines, or the number of the invalid one
@@ -75,8 +73,7 @@ def main(argv: list[str]) -> int:
     p = argparse.ArgumentParser(description='Reads the recorded scripts with read_script, and compares.')
     p.add_argument('--only', default='', help='scripts whose name has this word')
     a = p.parse_args(argv)
-    with gzip.open(SCRIPTS, 'rt', encoding='utf-8') as h:
-        scripts = [s for s in json.load(h) if a.only in s['name']]
+    scripts = recorded_scripts(a.only)
     got = answers([s['script'].encode('latin-1') for s in scripts])
     if not scripts or len(got) != len(scripts):
         print('%d scripts, %d answers' % (len(scripts), len(got)))

@@ -5,8 +5,6 @@
 It writes each script as a case of nr_cases, and runs that program by `rt try`, so it needs the toolchain, but no built program, and
 nothing is proved here. Exit status: 0 all agree, 1 some differ, 2 nothing could be run."""
 import argparse
-import gzip
-import json
 import os
 import re
 import subprocess
@@ -15,7 +13,7 @@ import tempfile
 
 from antt import ROOT
 from check_definitions import Recorded
-from compare_scripts import SCRIPTS
+from compare_scripts import recorded_scripts
 
 
 def lines_of(key: str, text: str) -> list[str]:
@@ -47,12 +45,8 @@ def answers(scripts: list[Recorded]) -> list[str]:
         return done.stdout.decode('latin-1').splitlines()
 
 
-def main(argv: list[str]) -> int:
-    p = argparse.ArgumentParser(description='Runs the drill unproved on the recorded scripts, and compares what it prints.')
-    p.add_argument('--only', default='', help='scripts whose name has this word')
-    a = p.parse_args(argv)
-    with gzip.open(SCRIPTS, 'rt', encoding='utf-8') as h:
-        scripts = [s for s in json.load(h) if a.only in s['name']]
+def compared(scripts: list[Recorded]) -> int:
+    """Runs the drill on these scripts, prints what differs, and gives the exit status."""
     lines = answers(scripts) if scripts else []
     differing = [line for line in lines if not line.startswith('ok ')]
     differ = sum('no %s' % s['name'] in lines for s in scripts)
@@ -62,6 +56,12 @@ def main(argv: list[str]) -> int:
         return 2
     print('\n'.join([*differing, '%d scripts, %d differ' % (len(scripts), differ)]))
     return 1 if differ else 0
+
+
+def main(argv: list[str]) -> int:
+    p = argparse.ArgumentParser(description='Runs the drill unproved on the recorded scripts, and compares what it prints.')
+    p.add_argument('--only', default='', help='scripts whose name has this word')
+    return compared(recorded_scripts(p.parse_args(argv).only))
 
 
 if __name__ == '__main__':

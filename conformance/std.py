@@ -109,6 +109,7 @@ STD: dict[str, Value] = {
     'list_any': Fn(2, lambda f, x: any(truth(call(f, y)) for y in listed(x))),
     'list_all': Fn(2, lambda f, x: all(truth(call(f, y)) for y in listed(x))),
     'fold': Fn(3, _fold),
+    'bit_and': Fn(2, lambda a, b: number(a) & number(b)),
     'replicate': Fn(2, lambda n, x: [x] * number(n)),
     'sum': Fn(1, lambda x: sum(map(number, listed(x)))),
     'sum_by': Fn(2, lambda f, x: sum(number(call(f, y)) for y in listed(x))),

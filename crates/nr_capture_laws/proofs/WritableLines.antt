@@ -102,7 +102,7 @@ line_writable (name ∷ others) = named_writable name others
 
 opened_writable : (o : Option Opening) → If AreWritable (opened_by o)
 opened_writable None = tt
-opened_writable (Some o) = if_if AreWritable o.numbered None (Some (record { opening = o; lines = [] })) tt tt
+opened_writable (Some o) = tt
 
 followed_writable : (script : ScriptLines) (line : Option Line) → AreWritable script → If IsWritableLine line → If AreWritable (followed_by script line)
 followed_writable script None is h = tt

@@ -43,6 +43,7 @@ use Rattle.nr_byte_laws.proofs.ByteClients.{client_due, none_again, outcome_byte
 use Rattle.nr_byte_laws.proofs.ByteServers.{ReadyOfBytes, ready_bytes, server_due}
 use Rattle.nr_texts.specs.Words.{IsWord}
 use Rattle.nr_script.specs.Script.{ScriptLines, IsScript}
+use Rattle.nr_drill.specs.Lines.{IsUnnumbered}
 use Rattle.nr_script.proofs.TypedScripts.{script_is}
 use Rattle.nr_script.proofs.MadeScripts.{made_is}
 use Rattle.nr_capture.specs.declared.capture.CapturedMark.{CapturedMark}
@@ -132,7 +133,7 @@ writable_outcome (outcomes.Version low high) b w = w
 
 -- ===== the marks of a run
 
-module _ (server : SerialServer) (script : ScriptLines) (run : List Mark) (is : IsScript script) (writable : AreWritable script) (d : IsDrillRun server script run) where
+module _ (server : SerialServer) (script : ScriptLines) (run : List Mark) (is : IsScript script) (none : IsUnnumbered script) (writable : AreWritable script) (d : IsDrillRun server script run) where
   abbrev Right : CapturedMark → Type 0
   Right mark = (is_link script.opening (link_of mark) ≡ true) × IsWritableMark mark
 
@@ -153,8 +154,8 @@ module _ (server : SerialServer) (script : ScriptLines) (run : List Mark) (is : 
   at_mark before mark after e =
       let link = mark_link mark in
       let opened = parameters_of script.opening link in
-      let n = first_link server script run is is.unnumbered d before after mark e in
-      let laws : KeepsAll opened link run = first_laws server script run is is.unnumbered d link n.0 n.1 in
+      let n = first_link server script run is none d before after mark e in
+      let laws : KeepsAll opened link run = first_laws server script run is none d link n.0 n.1 in
       let typed : AtEachMark TypedMark [] (before ++ mark ∷ after) = subst (AtEachMark TypedMark []) e d.typed in
       let asked = subst (AtEachMark (AskedMark IsAll opened link) []) e laws.asked.each in
       let served = subst (AtEachMark (ServedMark IsAll opened link) []) e laws.served.each in
@@ -236,10 +237,10 @@ module _ (server : SerialServer) (script : ScriptLines) (run : List Mark) (is : 
   marks_of_all [] h = tt
   marks_of_all (mark ∷ all) h = (h.0.1, marks_of_all all h.1)
 
-run_writable : (server : SerialServer) (script : ScriptLines) (run : List Mark) → IsScript script → AreWritable script → IsDrillRun server script run → IsWritable (captured script.opening run)
+run_writable : (server : SerialServer) (script : ScriptLines) (run : List Mark) → IsScript script → IsUnnumbered script → AreWritable script → IsDrillRun server script run → IsWritable (captured script.opening run)
 unfolding captured
-run_writable server script run is writable d =
-    let all = all_right server script run is writable d [] run refl (follows_writable server script run is is.unnumbered writable d.follows) in
+run_writable server script run is none writable d =
+    let all = all_right server script run is none writable d [] run refl (follows_writable server script run is none writable d.follows) in
     record {
       opening = record {
         some_clients = is.some_clients;
@@ -252,15 +253,15 @@ run_writable server script run is writable d =
         some_server_units = is.some_server_units;
         few_server_units = is.few_server_units;
       };
-      links = links_of_all server script run is writable d (flat_map captured_mark run) all;
-      marks = marks_of_all server script run is writable d (flat_map captured_mark run) all;
+      links = links_of_all server script run is none writable d (flat_map captured_mark run) all;
+      marks = marks_of_all server script run is none writable d (flat_map captured_mark run) all;
     }
 
 pub writable : RunsAreWritable
-writable server script run (inl read) d = run_writable server script run (script_is read.0 script read.1 read.2) (read_is_writable read.0 script read.2) d
-writable server script run (inr made) d =
+writable server script run (inl read) none d = run_writable server script run (script_is read.0 script read.1 read.2) none (read_is_writable read.0 script read.2) d
+writable server script run (inr made) none d =
     let same = sym made.6 in
-    run_writable server script run (subst IsScript same (made_is made.0 made.1 made.2 made.3 made.4 made.5)) (subst AreWritable same (made_is_writable made.0 made.1 made.2)) d
+    run_writable server script run (subst IsScript same (made_is made.0 made.1 made.2 made.3 made.4 made.5)) none (subst AreWritable same (made_is_writable made.0 made.1 made.2)) d
 
 pub read_back : RunsAreReadBack
-read_back server script run source d = capture_back (captured script.opening run) (writable server script run source d)
+read_back server script run source none d = capture_back (captured script.opening run) (writable server script run source none d)

@@ -11,6 +11,7 @@ use Rattle.nr_capture.specs.Captured.{Captured, captured}
 use Rattle.nr_capture.specs.Writable.{IsWritable}
 use Rattle.nr_drill.specs.Drill.{SerialServer}
 use Rattle.nr_drill.specs.Headline.{IsDrillRun}
+use Rattle.nr_drill.specs.Lines.{IsUnnumbered}
 
 -- a script that a text of at most this many bytes says
 abbrev pub IsRead : ScriptLines → Type 0
@@ -20,13 +21,13 @@ IsRead script = (text : List ℕ) × (length text ≤ input_max) × (script_of t
 abbrev pub IsMade : ScriptLines → Type 0
 IsMade script = (seed : ℕ) × (clients : ℕ) × (calls : ℕ) × (1 ≤ clients) × (clients ≤ clients_max) × (calls ≤ calls_max) × (script ≡ made_script seed clients calls)
 
--- The capture can be written: its numbers are words, its bytes are bytes, its credentials are those of a drill, each mark is of a link of the
--- first line.
+-- If its clients have no numbers, the capture can be written: its numbers are words, its bytes are bytes, its credentials are those of a drill, each
+-- mark is of a link of the first line. A capture has no lines for further links of a client.
 abbrev pub RunsAreWritable : Type 0
-RunsAreWritable = (server : SerialServer) (script : ScriptLines) (run : List Mark) → IsRead script ⊎ IsMade script → IsDrillRun server script run →
+RunsAreWritable = (server : SerialServer) (script : ScriptLines) (run : List Mark) → IsRead script ⊎ IsMade script → IsUnnumbered script → IsDrillRun server script run →
     IsWritable (captured script.opening run)
 
 -- what its text says is the capture
 abbrev pub RunsAreReadBack : Type 0
-RunsAreReadBack = (server : SerialServer) (script : ScriptLines) (run : List Mark) → IsRead script ⊎ IsMade script → IsDrillRun server script run →
+RunsAreReadBack = (server : SerialServer) (script : ScriptLines) (run : List Mark) → IsRead script ⊎ IsMade script → IsUnnumbered script → IsDrillRun server script run →
     capture_of (Captured script.opening run) ≡ Ok (captured script.opening run)

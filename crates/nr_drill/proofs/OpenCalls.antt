@@ -443,7 +443,8 @@ flat_in {X = X} {A = A} f (y ∷ xs) x a h is = by (Contains-append_cases (y ∷
     by (inl first) rest = Contains-append_left (f y) (flat_map f xs) a (subst (λ (z : X). Contains (f z) a) (sym (one_in y x first)) is)
     by (inr later) rest = Contains-append_right (f y) (flat_map f xs) a (rest later)
 
-some_due : (o : LinkParameters) (link : ℕ) (run : List Mark) (xid : ℕ) → accepts (accepted_calls link run) xid ≡ true → list_any (λ (c : CompletedCall). eqb c.xid xid) (client o link run).state.outcomes ≡ true →
+-- an accepted call whose outcome came, and wasn't handed over, has it due unless it was given up
+pub some_due : (o : LinkParameters) (link : ℕ) (run : List Mark) (xid : ℕ) → accepts (accepted_calls link run) xid ≡ true → list_any (λ (c : CompletedCall). eqb c.xid xid) (client o link run).state.outcomes ≡ true →
     is_completed link xid run ≡ false → is_abandoned link xid run ≡ false → NoneDue o link run → ⊥
 unfolding outcomes_due
 some_due o link run xid accepted came first kept none =
@@ -532,11 +533,11 @@ same_settles s t client xid (marks.Execute l x moment payload place reply) is = 
 same_settles s t client xid (marks.Drop l) is = refl
 same_settles s t client xid (marks.Told l what) is = refl
 
-same_answers : (s t : Setting) (client : ℕ) (run : List Mark) → SameOn s t run → flat_map (answer_at t client) run ≡ flat_map (answer_at s client) run
+pub same_answers : (s t : Setting) (client : ℕ) (run : List Mark) → SameOn s t run → flat_map (answer_at t client) run ≡ flat_map (answer_at s client) run
 same_answers s t client [] is = refl
 same_answers s t client (mark ∷ run) is = λ i. same_answer s t client mark is.0 i ++ same_answers s t client run is.1 i
 
-same_settled : (s t : Setting) (client xid : ℕ) (run : List Mark) → SameOn s t run → list_any (settles t client xid) run ≡ list_any (settles s client xid) run
+pub same_settled : (s t : Setting) (client xid : ℕ) (run : List Mark) → SameOn s t run → list_any (settles t client xid) run ≡ list_any (settles s client xid) run
 same_settled s t client xid [] is = refl
 same_settled s t client xid (mark ∷ run) is = λ i. same_settles s t client xid mark is.0 i || same_settled s t client xid run is.1 i
 

@@ -152,7 +152,7 @@ fn executed(rt: &impl Abort, alloc: Global, link: &mut TestLink, line: &Line<'_>
 }
 
 /// The results of a READ of `hello`.
-const HELLO_READ: &[u8] = b"\0\0\0\0\0\0\0\0\0\0\0\x05\0\0\0\x01\0\0\0\x05hello\0\0\0";
+pub const HELLO_READ: &[u8] = b"\0\0\0\0\0\0\0\0\0\0\0\x05\0\0\0\x01\0\0\0\x05hello\0\0\0";
 
 /// A call is sent in one step, and executed in two.
 fn proceed(rt: &impl Abort, alloc: Global, link: &mut TestLink, line: &Line<'_>, steps: u32)

@@ -28,7 +28,7 @@ use Rattle.nr_reduce.specs.ClientState.{WaitingCall, ClientState, first_of, call
 use Rattle.nr_reduce.specs.Client.{client_rules, client_end, client_output}
 use Rattle.nr_reduce.specs.Run.{client}
 use Rattle.nr_reduce.specs.Credits.{credits_granted}
-use Rattle.nr_reduce.specs.SubmitAnswer.{submit_answer, unless_spent, unless_far_by}
+use Rattle.nr_reduce.specs.SubmitAnswer.{calls_counted, submit_answer, unless_spent, unless_far_by}
 use Rattle.nr_reduce.specs.KeptClient.{KeptClient, ClientKeeps, kept_submitted}
 use Rattle.nr_reduce.specs.Standing.{input_events}
 use Rattle.nr_reduce.specs.StandingLaws.{GoesOn, least_kept, kept_answer_by_plan, kept_answer_if}
@@ -197,10 +197,13 @@ none_held opened link h run s lives =
 pub answers_as_client : AnswersAsClient
 answers_as_client opened link h run call form s = answers_alike opened link h run call form s.keeps (λ lives some. absurd (some (none_held opened link h run s lives)))
 
-pub counts_as_client : CountsAsClient
+pub counts_alike : (opened : LinkParameters) (link : ℕ) (h : RequesterSide) (run : List Mark) → KeepsClient opened link h run → (length h.state.outstanding ≡ calls_counted (client opened link run).state) × (h.state.grant ≡ credits_granted opened link run)
 unfolding credits_granted
-counts_as_client opened link h run s =
-    (let c = kept_counts opened (kept_client h.state) (client opened link run) (length (bytes_received link Initiator run)) s.keeps.kept.keeps in (c.0, c.1.0))
+counts_alike opened link h run s =
+    (let c = kept_counts opened (kept_client h.state) (client opened link run) (length (bytes_received link Initiator run)) s.kept.keeps in (c.0, c.1.0))
+
+pub counts_as_client : CountsAsClient
+counts_as_client opened link h run s = counts_alike opened link h run s.keeps
 
 pub agrees_as_client : AgreesAsClient
 agrees_as_client opened link h run s = (s.keeps.kept.keeps.up, (s.keeps.kept.keeps.down, s.keeps.kept.keeps.invalidates))

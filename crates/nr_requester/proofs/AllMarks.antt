@@ -139,14 +139,27 @@ drain_answers calls opened link h run n bytes k =
     quiet_mark calls opened link h (after_drain n h) run (marks.Wrote link Initiator bytes) (wrote_quiet link run bytes) (λ x. refl) k l.answered l.outstanding l.next
 
 -- nothing is received with such a mark
-received_same : (link : ℕ) (run : List Mark) (mark : Mark) → fed_at link Initiator mark ≡ [] → bytes_received link Initiator (run ++ mark ∷ []) ≡ bytes_received link Initiator run
+pub received_same : (link : ℕ) (run : List Mark) (mark : Mark) → fed_at link Initiator mark ≡ [] → bytes_received link Initiator (run ++ mark ∷ []) ≡ bytes_received link Initiator run
 received_same link run mark none = received_one link Initiator run mark ∙ ap (λ (xs : List ℕ). bytes_received link Initiator run ++ xs) none ∙ append-nil (bytes_received link Initiator run)
 
 client_next : (opened : LinkParameters) (link : ℕ) (run : List Mark) (mark : Mark) (event : RunEvent) → events_at link Initiator run mark ≡ event ∷ [] → client opened link (run ++ mark ∷ []) ≡ next_end_state (client_rules opened) (client opened link run) event
 client_next opened link run mark event is = client_one opened link run mark ∙ ap (λ (es : List RunEvent). end_state_after (client_rules opened) (client opened link run) es) is
 
-drain_out : (opened : LinkParameters) (link : ℕ) (h : RequesterSide) (stopped run : List Mark) (n : ℕ) → RequesterRunsOut opened link h stopped run → RequesterRunsOut opened link (after_drain n h) stopped (run ++ marks.Wrote link Initiator (take n (queue_of h.state)) ∷ [])
+-- the client of one that ran out of memory is as it was when that stopped, but for what was written
+abbrev pub IsAsStopped : LinkParameters → ℕ → (stopped run : List Mark) → (written : ℕ) → Type 0
+IsAsStopped opened link stopped run written = client opened link run ≡ live (record (client opened link stopped).state { written = written })
+
+pub written_since : (opened : LinkParameters) (link : ℕ) (stopped run : List Mark) (written : ℕ) (bytes : List ℕ) → IsAsStopped opened link stopped run written → IsAsStopped opened link stopped (run ++ marks.Wrote link Initiator bytes ∷ []) (written + length bytes)
 unfolding client_end client_state_after
+written_since opened link stopped run written bytes same =
+    client_next opened link run (marks.Wrote link Initiator bytes) (QueueWritten (length bytes)) (own_events link (QueueWritten (length bytes) ∷ []))
+    ∙ ap (λ (e : EndState ClientState). next_end_state (client_rules opened) e (QueueWritten (length bytes))) same
+
+pub quiet_since : (opened : LinkParameters) (link : ℕ) (stopped run : List Mark) (written : ℕ) (mark : Mark) → events_at link Initiator run mark ≡ [] → IsAsStopped opened link stopped run written → IsAsStopped opened link stopped (run ++ mark ∷ []) written
+quiet_since opened link stopped run written mark no_events same =
+    client_one opened link run mark ∙ ap (λ (es : List RunEvent). end_state_after (client_rules opened) (client opened link run) es) no_events ∙ same
+
+drain_out : (opened : LinkParameters) (link : ℕ) (h : RequesterSide) (stopped run : List Mark) (n : ℕ) → RequesterRunsOut opened link h stopped run → RequesterRunsOut opened link (after_drain n h) stopped (run ++ marks.Wrote link Initiator (take n (queue_of h.state)) ∷ [])
 drain_out opened link h stopped run n out =
     let bytes : List ℕ = take n (queue_of h.state) in
     let mark : Mark = marks.Wrote link Initiator bytes in
@@ -154,8 +167,7 @@ drain_out opened link h stopped run n out =
       out = drain_stays_out h n opened link stopped run out.out;
       received = received_same link run mark refl ∙ out.received;
       written = out.written + length bytes;
-      same = client_next opened link run mark (QueueWritten (length bytes)) (own_events link (QueueWritten (length bytes) ∷ []))
-          ∙ ap (λ (e : EndState ClientState). next_end_state (client_rules opened) e (QueueWritten (length bytes))) out.same;
+      same = written_since opened link stopped run out.written bytes out.same;
       answers = drain_answers [] opened link h run n bytes out.answers;
       counted = drain_counted h n link run out.counted;
     }
@@ -169,7 +181,7 @@ drain_is_a_mark h n le fits = (
 -- ---- Out of memory
 
 -- what it keeps of its client, but for why it ended
-kept_out : (before after : RequesterFeeding) → before.state.side.ended ≡ None → RanOut before after → kept_client before.state ≡ record (kept_client after.state) { ended = None }
+pub kept_out : (before after : RequesterFeeding) → before.state.side.ended ≡ None → RanOut before after → kept_client before.state ≡ record (kept_client after.state) { ended = None }
 kept_out before after lives out =
     (λ i. record (kept_client before.state) { ended = lives i; memory = sym out.memory i; up_max = (sym out.agreed i).up; down_max = (sym out.agreed i).down; invalidates = (sym out.agreed i).invalidates; number = (sym out.terms i).number; agreed = sym out.earlier i })
     ∙ (λ i. record (kept_client (sym out.same i)) { ended = None; memory = after.state.side.memory })
@@ -231,25 +243,32 @@ revoke_is_a_mark h xid bytes lt opened link run s = record {
   counted = revoke_counted h xid link run bytes s.counted;
 }
 
-pub revoke_stays_out : RevokeStaysOut
+-- a revoke is as if it had come before that
+pub revoked_since : (opened : LinkParameters) (link : ℕ) (stopped run : List Mark) (written xid : ℕ) (bytes : List ℕ) → (client opened link stopped).ended ≡ None → bytes_received link Initiator run ≡ bytes_received link Initiator stopped → IsAsStopped opened link stopped run written →
+    IsAsStopped opened link (stopped ++ marks.Revoke link xid bytes ∷ []) (run ++ marks.Revoke link xid bytes ∷ []) written
 unfolding client_end client_state_after
-revoke_stays_out opened link h stopped run xid bytes lt out =
+revoked_since opened link stopped run written xid bytes lives received same =
     let mark : Mark = marks.Revoke link xid bytes in
     let before : EndState ClientState = client opened link stopped in
-    let is_live : before ≡ live before.state = lives_as before (sym out.out.keeps.ended) in
+    let is_live : before ≡ live before.state = lives_as before lives in
     let at : ℕ = length (bytes_received link Initiator run) in
     let then : ℕ = length (bytes_received link Initiator stopped) in
-    let place : at ≡ then = ap (λ (xs : List ℕ). length xs) out.received in
+    let place : at ≡ then = ap (λ (xs : List ℕ). length xs) received in
     let after : client opened link (stopped ++ mark ∷ []) ≡ live (client_state_after opened before.state (MemoryRevoked then xid)) =
     client_next opened link stopped mark (MemoryRevoked then xid) (own_events link (MemoryRevoked then xid ∷ []))
     ∙ ap (λ (e : EndState ClientState). next_end_state (client_rules opened) e (MemoryRevoked then xid)) is_live in
+    client_next opened link run mark (MemoryRevoked at xid) (own_events link (MemoryRevoked at xid ∷ []))
+    ∙ (λ i. next_end_state (client_rules opened) (same i) (MemoryRevoked (place i) xid))
+    ∙ ap (λ (e : EndState ClientState). live (record e.state { written = written })) (sym after)
+
+pub revoke_stays_out : RevokeStaysOut
+revoke_stays_out opened link h stopped run xid bytes lt out =
+    let mark : Mark = marks.Revoke link xid bytes in
     record {
       out = revoke_stays_out_lem opened link h stopped run xid bytes out.out;
       received = received_same link run mark refl ∙ out.received ∙ sym (received_same link stopped mark refl);
       written = out.written;
-      same = client_next opened link run mark (MemoryRevoked at xid) (own_events link (MemoryRevoked at xid ∷ []))
-          ∙ (λ i. next_end_state (client_rules opened) (out.same i) (MemoryRevoked (place i) xid))
-          ∙ ap (λ (e : EndState ClientState). live (record e.state { written = out.written })) (sym after);
+      same = revoked_since opened link stopped run out.written xid bytes (sym out.out.keeps.ended) out.received out.same;
       answers = revoke_answers [] opened link h run xid bytes lt out.answers;
       counted = revoke_counted h xid link run bytes out.counted;
     }
@@ -300,7 +319,7 @@ forget_client opened link h run xid s = record {
   side = s.side;
 }
 
-forget_out : (opened : LinkParameters) (link : ℕ) (h : RequesterSide) (stopped run : List Mark) (xid : ℕ) → ClientRunsOut opened link (kept_client h.state) (queue_of h.state) stopped run →
+pub forget_out : (opened : LinkParameters) (link : ℕ) (h : RequesterSide) (stopped run : List Mark) (xid : ℕ) → ClientRunsOut opened link (kept_client h.state) (queue_of h.state) stopped run →
     ClientRunsOut opened link (kept_client (after_forget h xid).state) (queue_of (after_forget h xid).state) stopped run
 unfolding after_forget
 forget_out opened link h stopped run xid out = subst (λ (x : KeptClient). ClientRunsOut opened link x (queue_of h.state) stopped run) (kept_after_forget h xid) out
@@ -318,7 +337,7 @@ out_still opened link h stopped run mark answers uncounted out no_events no_writ
   out = client_stays_out_lem opened link (kept_client h.state) (queue_of h.state) (queue_of h.state) stopped run mark out.out (ap (λ (xs : List ℕ). xs ++ queue_of h.state) no_write);
   received = received_same link run mark no_feed ∙ out.received;
   written = out.written;
-  same = client_one opened link run mark ∙ ap (λ (es : List RunEvent). end_state_after (client_rules opened) (client opened link run) es) no_events ∙ out.same;
+  same = quiet_since opened link stopped run out.written mark no_events out.same;
   answers = answers;
   counted = same_count link run mark h.marks uncounted out.counted;
 }
@@ -355,7 +374,7 @@ given_stays_out h mark xid none gives own lt opened link stopped run out =
           (client_stays_out_lem opened link (kept_client h.state) (queue_of h.state) (queue_of h.state) stopped run (mark link) out.out (ap (λ (xs : List ℕ). xs ++ queue_of h.state) n.1.0));
       received = received_same link run (mark link) n.1.1 ∙ out.received;
       written = out.written;
-      same = client_one opened link run (mark link) ∙ ap (λ (es : List RunEvent). end_state_after (client_rules opened) (client opened link run) es) n.0 ∙ out.same;
+      same = quiet_since opened link stopped run out.written (mark link) n.0 out.same;
       answers = given_answers [] opened link h run (mark link) xid (none link) (gives link) lt out.answers;
       counted = forget_counted h xid link run (mark link) (own link) out.counted;
     }

@@ -115,7 +115,7 @@ resends_are_marks is_own earlier opened link h run s none = all_resent is_own ea
 
 -- ---- A piece of the server's stream
 
-fed_so_far : (is_own : ℕ → Bool) (earlier : ℕ) (opened : LinkParameters) (link : ℕ) (h : RequesterSide) (run : List Mark) (piece staging : List ℕ) → RequesterKeeps is_own earlier opened link h run →
+pub fed_so_far : (is_own : ℕ → Bool) (earlier : ℕ) (opened : LinkParameters) (link : ℕ) (h : RequesterSide) (run : List Mark) (piece staging : List ℕ) → RequesterKeeps is_own earlier opened link h run →
     KeepsSoFar is_own earlier opened link (after_fed h piece staging) (run ++ marks.Fed link Initiator piece ∷ [])
 fed_so_far is_own earlier opened link h run piece staging s =
     let mark : Mark = marks.Fed link Initiator piece in

@@ -236,7 +236,7 @@ quiet_regions : (opened : LinkParameters) (es more : List RunEvent) → SubmitNo
 quiet_regions opened es more none h =
     subst (λ (e : EndState ClientState). Offers opened e.state) (sym (end_state_after_append (client_rules opened) (initial_client opened) es more)) (all_offer opened (client_by opened es) more none h)
 
-are_silent : (es : List RunEvent) → AreNoFrames es → SubmitNothing es → AreSilent es
+pub are_silent : (es : List RunEvent) → AreNoFrames es → SubmitNothing es → AreSilent es
 are_silent [] frames submits = tt
 are_silent (event ∷ es) frames submits = (by event frames.0 submits.0, are_silent es frames.1 submits.1)
   where

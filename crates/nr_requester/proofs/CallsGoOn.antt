@@ -15,7 +15,7 @@ use Rattle.nr_reduce.specs.History.{CompletedCall, is_abandoned, bytes_received}
 use Rattle.nr_reduce.specs.OutcomesDue.{is_completed}
 use Rattle.nr_reduce.specs.Plans.{Buffer, buffers, call_message, regions_needed}
 use Rattle.nr_reduce.specs.PlansByLists.{plan_by_lists}
-use Rattle.nr_reduce.specs.ClientState.{OutstandingCall, WaitingCall, ClientState, call_payload, waiting_from}
+use Rattle.nr_reduce.specs.ClientState.{OutstandingCall, WaitingCall, ClientState, call_payload, stag_after, waiting_from}
 use Rattle.nr_reduce.specs.KeptCalls.{KeptCall, AreKept, numbered_calls}
 use Rattle.nr_reduce.specs.KeptClient.{KeptClient, kept_of, registered_all, resumed_kept, resumed_memory}
 use Rattle.nr_reduce.specs.KeptReopening.{IsSentAgain, AreSentAgain, KeepsUnlessGivenUp}
@@ -34,7 +34,7 @@ use Rattle.nr_requester.specs.KeptAnswers.{HandsBack, IsAsked, StillHolds, compl
 use Rattle.nr_requester.specs.declared.answer.AnsweredCall.{AnsweredCall}
 use Rattle.nr_requester.specs.OpenCalls.{found_answer}
 use Rattle.nr_requester.specs.ReopenedLinks.{KeepsEarlier, RequesterKeeps, earlier_own, own_answers}
-use Rattle.nr_requester.specs.Reopening.{CallsAgain, CallsGoOn, OpensNext, after_reopen, call_again, calls_again, calls_again_from, plan_again, with_call_again}
+use Rattle.nr_requester.specs.Reopening.{CallsAgain, CallsGoOn, OpensNext, after_reopen, call_again, calls_again, calls_again_from, plan_again, stags_for_call, stags_for_calls, with_call_again}
 use Rattle.nr_requester.proofs.OwnSides.{own_found}
 use Rattle.nr_requester.proofs.Sent.{stags_are_lem, registered_next}
 
@@ -57,19 +57,20 @@ one_kept c call send m plan =
 -- ---- All of them
 
 -- of some calls, those of this list go on
-record GoOn (credit : ℕ) (a b : CallsAgain) (rs : List ResumedCall) : Type 0 where
+record GoOn (credit : ℕ) (a b : CallsAgain) (rs : List ResumedCall) (need : ℕ) : Type 0 where
   calls : map (kept_call 0) b.calls ≡ map (kept_call 0) a.calls ++ resumed_kept (length a.calls) a.memory.next rs
   memory : b.memory ≡ resumed_memory a.memory rs
   messages : b.messages ≡ a.messages ++ map (λ (w : WaitingCall). call_message w.xid credit w.stag w.plan) (waiting_from a.memory.next rs)
   count : length b.calls ≡ length a.calls + length rs
+  stags : stag_after a.memory.next rs ≡ a.memory.next + need
 
-none_go_on : (credit : ℕ) (a : CallsAgain) → GoOn credit a a []
-none_go_on credit a = record { calls = sym (append-nil (map (kept_call 0) a.calls)); memory = refl; messages = sym (append-nil a.messages); count = omega arith }
+none_go_on : (credit : ℕ) (a : CallsAgain) → GoOn credit a a [] 0
+none_go_on credit a = record { calls = sym (append-nil (map (kept_call 0) a.calls)); memory = refl; messages = sym (append-nil a.messages); count = omega arith; stags = omega arith }
 
 -- one more at the front
-one_goes_on : (credit : ℕ) (c : StoredCall) (call : Call) (r : ResumedCall) (a b : CallsAgain) (rs : List ResumedCall) → c.xid ≡ r.xid → call ≡ r.call → plan_again c call ≡ r.plan →
-    GoOn credit (with_call_again (length a.calls) credit c call a) b rs → GoOn credit a b (r ∷ rs)
-one_goes_on credit c call r a b rs xid call_is plan rest =
+one_goes_on : (credit : ℕ) (c : StoredCall) (call : Call) (r : ResumedCall) (a b : CallsAgain) (rs : List ResumedCall) (need : ℕ) → c.xid ≡ r.xid → call ≡ r.call → plan_again c call ≡ r.plan →
+    GoOn credit (with_call_again (length a.calls) credit c call a) b rs need → GoOn credit a b (r ∷ rs) (regions_needed (plan_again c call) + need)
+one_goes_on credit c call r a b rs need xid call_is plan rest =
     let m : RegisteredMemory = a.memory in
     let p : Plan = plan_again c call in
     let own : StoredCall = stored_call c.xid (length a.calls) call p m in
@@ -87,6 +88,7 @@ one_goes_on credit c call r a b rs xid call_is plan rest =
           ∙ (λ i. a.messages ++ call_message (xid i) credit m.next (plan i) ∷ map (λ (w : WaitingCall). call_message w.xid credit w.stag w.plan) (waiting_from (next i) rs))
           ∙ (λ i. a.messages ++ call_message r.xid credit m.next r.plan ∷ map (λ (w : WaitingCall). call_message w.xid credit w.stag w.plan) (waiting_from (m.next + regions_needed (plan i)) rs));
       count = (let all = rest.count in omega (arith, all, count));
+      stags = (λ i. stag_after (m.next + regions_needed (sym plan i)) rs) ∙ ap (λ (n : ℕ). stag_after n rs) (sym next) ∙ rest.stags ∙ (let more : (registered_all m (buffers m.next p)).next + need ≡ m.next + (regions_needed p + need) = omega (arith, next) in more);
     }
 
 -- whether a call is awaited is whether it wasn't given up
@@ -94,7 +96,7 @@ abbrev IsAwaitedIf : ℕ → List Mark → StoredCall → Type 0
 IsAwaitedIf link run c = is_some (awaited_call c) ≡ not (is_abandoned link c.xid run)
 
 all_go_on : (link : ℕ) (run : List Mark) (sent credit : ℕ) (cs : List StoredCall) (rs : List ResumedCall) (a : CallsAgain) → AllByRecursion (IsAwaitedIf link run) cs →
-    AreSentAgain (filter (λ (c : KeptCall). not (is_abandoned link c.xid run)) (map (kept_call sent) cs)) rs → GoOn credit a (calls_again_from credit cs a) rs
+    AreSentAgain (filter (λ (c : KeptCall). not (is_abandoned link c.xid run)) (map (kept_call sent) cs)) rs → GoOn credit a (calls_again_from credit cs a) rs (stags_for_calls cs)
 all_go_on link run sent credit [] [] a awaited again = none_go_on credit a
 all_go_on link run sent credit [] (r ∷ rs) a awaited again = absurd again
 all_go_on link run sent credit (c ∷ cs) rs a awaited again = by (λ b xs more. all_go_on link run sent credit cs xs b awaited.1 more) (awaited_call c) refl (is_abandoned link c.xid run) refl rs again
@@ -109,15 +111,16 @@ all_go_on link run sent credit (c ∷ cs) rs a awaited again = by (λ b xs more.
     same_some : (x y : Call) → Some x ≡ Some y → x ≡ y
     same_some x y e = cc
 
-    by : ((b : CallsAgain) (xs : List ResumedCall) → AreSentAgain rest xs → GoOn credit b (calls_again_from credit cs b) xs) → (o : Option Call) → awaited_call c ≡ o → (b : Bool) → is_abandoned link c.xid run ≡ b → (rs : List ResumedCall) → AreSentAgain (cond (not b) (kept_call sent c ∷ rest) rest) rs → GoOn credit a (calls_again_from credit cs (call_again credit c o a)) rs
-    by go None e true gone rs again = go a rs again
+    by : ((b : CallsAgain) (xs : List ResumedCall) → AreSentAgain rest xs → GoOn credit b (calls_again_from credit cs b) xs (stags_for_calls cs)) → (o : Option Call) → awaited_call c ≡ o → (b : Bool) → is_abandoned link c.xid run ≡ b → (rs : List ResumedCall) → AreSentAgain (cond (not b) (kept_call sent c ∷ rest) rest) rs →
+        GoOn credit a (calls_again_from credit cs (call_again credit c o a)) rs (stags_for_call c o + stags_for_calls cs)
+    by go None e true gone rs again = subst (λ (n : ℕ). GoOn credit a (calls_again_from credit cs a) rs n) (let same : stags_for_calls cs ≡ 0 + stags_for_calls cs = omega arith in same) (go a rs again)
     by go None e false gone rs again = absurd (let wrong : false ≡ true = sym (ap (λ (o : Option Call). is_some o) e) ∙ (awaited.0 ∙ ap not gone) in cc)
     by go (Some call) e true gone rs again = absurd (let wrong : true ≡ false = sym (ap (λ (o : Option Call). is_some o) e) ∙ (awaited.0 ∙ ap not gone) in cc)
     by go (Some call) e false gone [] again = absurd again
     by go (Some call) e false gone (r ∷ rs) again =
         let call_is : call ≡ r.call = same_some call r.call (sym (of_call c.is_forgotten c.call call e) ∙ again.0.call) in
         let plan : plan_again c call ≡ r.plan = (λ i. plan_by_lists (call_payload (again.0.xid i) (call_is i)) c.read_at c.offered) ∙ sym again.0.planned in
-        one_goes_on credit c call r a (calls_again_from credit cs (with_call_again (length a.calls) credit c call a)) rs again.0.xid call_is plan
+        one_goes_on credit c call r a (calls_again_from credit cs (with_call_again (length a.calls) credit c call a)) rs (stags_for_calls cs) again.0.xid call_is plan
         (go (with_call_again (length a.calls) credit c call a) rs again.1)
 
 -- ---- What holds of the calls of a requester
@@ -162,17 +165,28 @@ agreed_last : (s : LinkState) (k : ClientState) → s.has_hello ≡ k.has_hello 
 agreed_last s k hello up down invalidates earlier =
     λ i. cond (hello i) (Some (record { up = up i; down = down i; invalidates = invalidates i })) (earlier i)
 
+module _ (is_own : ℕ → Bool) (earlier : ℕ) (opened : LinkParameters) (link : ℕ) (h : RequesterSide) (run : List Mark) (opens : IsOpened opened) (asked : AskedSoFar opened link run) (stands : RequesterKeeps is_own earlier opened link h run) (live : h.state.side.ended ≡ None) where
+  awaited_calls : AllByRecursion (IsAwaitedIf link run) h.state.outstanding
+  awaited_calls =
+      let k : ClientState = (client opened link run).state in
+      let stays : (client opened link run).ended ≡ None = sym stands.keeps.kept.keeps.ended ∙ live in
+      let calls = stands.keeps.kept.keeps.calls stays in
+      awaited_if link run h.state.outstanding stands.answers.awaited
+      (kept_xids (λ (xid : ℕ). is_completed link xid run ≡ false) k h.state.sent h.state.outstanding (numbered_calls k) calls.kept (calls_uncompleted opened link run opens asked))
+
+  -- the calls that are sent again are those that weren't given up
+  pub calls_sent_again : AreSentAgain (filter (λ (c : KeptCall). not (is_abandoned link c.xid run)) (map (kept_call h.state.sent) h.state.outstanding)) (calls_kept opened link run)
+  calls_sent_again =
+      kept_reopens opened link run (kept_client h.state) (length (bytes_received link Initiator run)) opens asked stands.keeps.kept.keeps (sym stands.keeps.kept.keeps.ended ∙ live) (unless_given_up link run h.state.sent h.state.outstanding awaited_calls)
+
 pub calls_go_on : CallsGoOn
 unfolding calls_again reopened
 calls_go_on is_own earlier opened link h run opens asked stands live =
     let k : ClientState = (client opened link run).state in
     let keeps = stands.keeps.kept.keeps in
     let stays : (client opened link run).ended ≡ None = sym keeps.ended ∙ live in
-    let calls = keeps.calls stays in
-    let none : AllByRecursion (λ (c : StoredCall). is_completed link c.xid run ≡ false) h.state.outstanding =
-    kept_xids (λ (xid : ℕ). is_completed link xid run ≡ false) k h.state.sent h.state.outstanding (numbered_calls k) calls.kept (calls_uncompleted opened link run opens asked) in
-    let awaited = awaited_if link run h.state.outstanding stands.answers.awaited none in
-    let again = kept_reopens opened link run (kept_client h.state) (length (bytes_received link Initiator run)) opens asked keeps stays (unless_given_up link run h.state.sent h.state.outstanding awaited) in
+    let awaited = awaited_calls is_own earlier opened link h run opens asked stands live in
+    let again = calls_sent_again is_own earlier opened link h run opens asked stands live in
     let begins : CallsAgain = record { calls = []; memory = initial_memory h.state.side.memory.next; messages = [] } in
     let on = all_go_on link run h.state.sent h.state.wished h.state.outstanding (calls_kept opened link run) begins awaited again in
     let next : h.state.side.memory.next ≡ k.stag = (keeps.memory stays).next in
@@ -186,6 +200,7 @@ calls_go_on is_own earlier opened link h run opens asked stands live =
       wished = stands.keeps.wished;
       terms = (stands.keeps.side live).terms;
       agreed = agreed_last h.state.side k (stands.keeps.side live).has_hello keeps.up keeps.down keeps.invalidates keeps.opening.1;
+      stags = ap (λ (n : ℕ). stag_after n (calls_kept opened link run)) (sym begun) ∙ on.stags ∙ ap (λ (n : ℕ). n + stags_for_calls h.state.outstanding) (first_next h.state.side.memory.next);
     }
 
 -- ---- The answers of the link that it leaves
@@ -355,5 +370,7 @@ earlier_stays is_own earlier opened link h run staging opens asked stands live =
       to_come = λ xid above. and_false (is_own xid) (is_some (found_answer xid h.state)) (none_above is_own earlier opened link h run stands xid above);
       outcomes = ap (λ (list : List AnsweredCall). map completed_of list) (sym same) ∙ stands.answers.outcomes;
       hands_back = subst (λ (list : List AnsweredCall). AllByRecursion (HandsBack opened (events link Initiator run)) list) same stands.answers.hands_back;
+      holds = subst (λ (list : List AnsweredCall). AllByRecursion (StillHolds (client opened link run).state.next_xid (client opened link run).state) list) same stands.answers.holds;
+      accesses = stands.keeps.kept.keeps.accesses;
       calls = subst (λ (list : List AnsweredCall). AllByRecursion (λ (a : AnsweredCall). IsAsked (client_calls opened link run) a.xid a.call) list) same stands.answers.calls;
     }

@@ -17,7 +17,10 @@ use Rattle.nr_reduce.specs.KeptCalls.{AreKept, stags_unless}
 use Rattle.nr_reduce.specs.KeptClient.{IsRegionOpen, OpensFor}
 use Rattle.nr_reduce.specs.Run.{client}
 use Rattle.nr_reduce.specs.KeptCalls.{numbered_calls}
-use Rattle.nr_requester.specs.RequesterState.{StoredCall, kept_call, stags_of}
+use Rattle.nr_reduce.specs.declared.mark.LinkParameters.{LinkParameters}
+use Rattle.nr_reduce.specs.declared.mark.Mark.{Mark}
+use Rattle.nr_requester.specs.RequesterState.{StoredCall, RequesterSide, kept_call, stags_of}
+use Rattle.nr_requester.specs.Standing.{KeepsClient}
 use Rattle.nr_requester.specs.AfterCalls.{live_count}
 use Rattle.nr_requester.specs.Laws.{CountsAllButNamed, NamedRegionIsNotCounted}
 
@@ -119,9 +122,12 @@ all_calls k m place sent (c ∷ cs) (o ∷ os) holds kept opens =
     let rises : Rises o.stag ss = subst (λ (xs : List ℕ). Rises o.stag xs) (sym kept.0.stags) (unless_rises o.is_revoked o.stag o.plan) in
     ((all_counted m ss live, λ stag e. all_but_one m o.stag ss stag rises live e), all_calls k m place sent cs os holds kept.1 opens.1)
 
-pub named_is_not_counted : NamedRegionIsNotCounted
-named_is_not_counted opened link h run s lives =
-    let is_live : (client opened link run).ended ≡ None = sym s.keeps.kept.keeps.ended ∙ lives in
-    let calls = s.keeps.kept.keeps.calls is_live in
-    let memory = s.keeps.kept.keeps.memory is_live in
+pub all_but_named : (opened : LinkParameters) (link : ℕ) (h : RequesterSide) (run : List Mark) → KeepsClient opened link h run → h.state.side.ended ≡ None → AllByRecursion (λ (c : StoredCall). CountsAllButNamed h.state.side.memory (stags_of c.claims)) h.state.outstanding
+all_but_named opened link h run s lives =
+    let is_live : (client opened link run).ended ≡ None = sym s.kept.keeps.ended ∙ lives in
+    let calls = s.kept.keeps.calls is_live in
+    let memory = s.kept.keeps.memory is_live in
     all_calls (client opened link run).state h.state.side.memory _ h.state.sent h.state.outstanding (numbered_calls (client opened link run).state) memory.holds calls.kept calls.opens
+
+pub named_is_not_counted : NamedRegionIsNotCounted
+named_is_not_counted opened link h run s lives = all_but_named opened link h run s.keeps lives

@@ -91,10 +91,10 @@ in_calls outs c a (b ∷ asked) h (inr is) own = append_right c (outcomes_of_cal
 
 -- ---- The answers
 
-record IsAnswer (asked : List AcceptedCall) (c : CompletedCall) : Type 0 where
-  call : AcceptedCall
-  there : Among call asked
-  own : c.xid ≡ call.xid
+pub record IsAnswer (asked : List AcceptedCall) (c : CompletedCall) : Type 0 where
+  pub call : AcceptedCall
+  pub there : Among call asked
+  pub own : c.xid ≡ call.xid
 
 answer_asked : (asked : List AcceptedCall) (c : CompletedCall) (answers : List AnsweredCall) → AllByRecursion (λ (a : AnsweredCall). IsAsked asked a.xid a.call) answers → Among c (map completed_of answers) → IsAnswer asked c
 answer_asked asked c [] h is = absurd is
@@ -102,28 +102,34 @@ answer_asked asked c (a ∷ answers) h (inl e) =
     record { call = record { xid = a.xid; call = a.call; form = h.0.0 }; there = to_among _ asked h.0.1; own = ap (λ (x : CompletedCall). x.xid) (sym e) }
 answer_asked asked c (a ∷ answers) h (inr is) = answer_asked asked c answers h.1 is
 
-due_answers : (opened : LinkParameters) (link : ℕ) (h : RequesterSide) (run : List Mark) (c : CompletedCall) → AnswersAfter opened link h run →
-    (Contains (map completed_of h.state.answered) c → Contains (outcomes_due opened link run) c) × (Contains (outcomes_due opened link run) c → Contains (map completed_of h.state.answered) c)
-unfolding outcomes_due client
-due_answers opened link h run c k = (to_due, from_due)
+-- if these answers have the outcomes that are due, each of a call that was accepted on the link
+pub due_of : (opened : LinkParameters) (link : ℕ) (answers : List AnsweredCall) (run : List Mark) (c : CompletedCall) → map completed_of answers ≡ filter (λ (x : CompletedCall). is_due link run x.xid) (client opened link run).state.outcomes →
+    (Among c (map completed_of answers) → IsAnswer (accepted_calls link run) c) → (Contains (map completed_of answers) c → Contains (outcomes_due opened link run) c) × (Contains (outcomes_due opened link run) c → Contains (map completed_of answers) c)
+unfolding outcomes_due
+due_of opened link answers run c outcomes accepted = (to_due, from_due)
   where
     outs : List CompletedCall
     outs = (client opened link run).state.outcomes
 
-    to_due : Contains (map completed_of h.state.answered) c → Contains (outcomes_due opened link run) c
+    to_due : Contains (map completed_of answers) c → Contains (outcomes_due opened link run) c
     to_due is =
-        let there : Among c (map completed_of h.state.answered) = to_among c (map completed_of h.state.answered) is in
-        let a : IsAnswer (accepted_calls link run) c = answer_asked (accepted_calls link run) c h.state.answered k.calls there in
-        let kept : Among c outs × (is_due link run c.xid ≡ true) = of_filter (λ (x : CompletedCall). is_due link run x.xid) c outs (subst (λ (cs : List CompletedCall). Among c cs) k.outcomes there) in
+        let there : Among c (map completed_of answers) = to_among c (map completed_of answers) is in
+        let a : IsAnswer (accepted_calls link run) c = accepted there in
+        let kept : Among c outs × (is_due link run c.xid ≡ true) = of_filter (λ (x : CompletedCall). is_due link run x.xid) c outs (subst (λ (cs : List CompletedCall). Among c cs) outcomes there) in
         from_among c (outcomes_due opened link run)
         (in_filter (λ (x : CompletedCall). is_due link run x.xid) c (flat_map (outcomes_of_call outs) (accepted_calls link run)) (in_calls outs c a.call (accepted_calls link run) kept.0 a.there a.own) kept.1)
 
-    from_due : Contains (outcomes_due opened link run) c → Contains (map completed_of h.state.answered) c
+    from_due : Contains (outcomes_due opened link run) c → Contains (map completed_of answers) c
     from_due is =
         let there : Among c (flat_map (outcomes_of_call outs) (accepted_calls link run)) × (is_due link run c.xid ≡ true) =
         of_filter (λ (x : CompletedCall). is_due link run x.xid) c (flat_map (outcomes_of_call outs) (accepted_calls link run)) (to_among c (outcomes_due opened link run) is) in
-        from_among c (map completed_of h.state.answered)
-        (subst (λ (cs : List CompletedCall). Among c cs) (sym k.outcomes) (in_filter (λ (x : CompletedCall). is_due link run x.xid) c outs (of_calls outs c (accepted_calls link run) there.0) there.1))
+        from_among c (map completed_of answers)
+        (subst (λ (cs : List CompletedCall). Among c cs) (sym outcomes) (in_filter (λ (x : CompletedCall). is_due link run x.xid) c outs (of_calls outs c (accepted_calls link run) there.0) there.1))
+
+due_answers : (opened : LinkParameters) (link : ℕ) (h : RequesterSide) (run : List Mark) (c : CompletedCall) → AnswersAfter opened link h run →
+    (Contains (map completed_of h.state.answered) c → Contains (outcomes_due opened link run) c) × (Contains (outcomes_due opened link run) c → Contains (map completed_of h.state.answered) c)
+unfolding client
+due_answers opened link h run c k = due_of opened link h.state.answered run c k.outcomes (answer_asked (accepted_calls link run) c h.state.answered k.calls)
 
 pub answers_are_due : AnswersAreDue
 answers_are_due opened link h run c s = due_answers opened link h run c s.answers

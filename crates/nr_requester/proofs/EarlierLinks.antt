@@ -8,10 +8,14 @@ use Rattle.nr_reduce.specs.declared.mark.Mark.{Mark}
 use Rattle.nr_reduce.specs.declared.mark.Mark.TheVariants as marks
 use Rattle.nr_reduce.specs.Asked.{as_accepted, client_calls}
 use Rattle.nr_reduce.specs.Events.{RunEvent, events, events_at}
-use Rattle.nr_reduce.specs.EndRules.{EndState, end_state_after}
-use Rattle.nr_reduce.specs.Client.{client_rules}
+use Rattle.nr_link.specs.declared.end.End.{End}
+use Rattle.nr_regions.specs.Access.{TaggedSegment}
+use Rattle.nr_reduce.specs.EndRules.{EndState, next_end_state, next_end_state_by, next_end_state_in, end_state_after}
+use Rattle.nr_reduce.specs.Events.RunEvent.{FrameReceived, CallSubmitted, MemoryRevoked, CallExecuted, QueueWritten, ServerTold}
+use Rattle.nr_reduce.specs.OfferedMemory.{AreReceived}
+use Rattle.nr_reduce.specs.Client.{client_rules, client_end, client_state_after}
 use Rattle.nr_reduce.specs.ClientState.{ClientState}
-use Rattle.nr_reduce.specs.History.{AcceptedCall, CompletedCall, accepted_at, accepted_calls}
+use Rattle.nr_reduce.specs.History.{AcceptedCall, CompletedCall, accepted_at, accepted_calls, bytes_received, fed_at}
 use Rattle.nr_reduce.specs.Run.{client}
 use Rattle.nr_reduce.proofs.Steps.{client_one, events_one}
 use Rattle.nr_requester.specs.declared.answer.AnsweredCall.{AnsweredCall}
@@ -19,19 +23,21 @@ use Rattle.nr_link.specs.Input.{InputState}
 use Rattle.nr_endpoint.specs.LinkState.{LinkState}
 use Rattle.nr_endpoint.specs.SendQueue.{writable}
 use Rattle.nr_reduce.specs.KeptClient.{KeptClient, released_all}
-use Rattle.nr_reduce.specs.Standing.{ClientRepresents}
+use Rattle.nr_reduce.specs.Standing.{ClientRepresents, ClientRunsOut}
 use Rattle.nr_requester.specs.RequesterState.{StoredCall, RequesterState, RequesterSide, input_kept, kept_client, queue_of}
 use Rattle.nr_requester.specs.AfterCalls.{after_forget, after_revoke, forgotten_if, revoked_if, stags_in, without_answer}
 use Rattle.nr_requester.specs.CountedMarks.{marks_max, marks_of, one_mark_more}
 use Rattle.nr_requester.specs.Standing.{AnswersWith, KeepsClient, LinkKeeps}
-use Rattle.nr_requester.specs.KeptAnswers.{HandsBack, IsAsked, completed_of, is_due}
-use Rattle.nr_requester.specs.ReopenedLinks.{KeepsEarlier, RequesterKeeps, own_answers, own_side}
-use Rattle.nr_requester.specs.EarlierLinks.{EarlierCounts, EarlierGoes, EarlierStays, KeepsEarlierOn}
-use Rattle.nr_requester.proofs.AllMarks.{forget_given, none_quiet, revoke_given, revoke_quiet, same_answers}
+use Rattle.nr_requester.specs.KeptAnswers.{HandsBack, IsAsked, StillHolds, completed_of, is_due}
+use Rattle.nr_requester.specs.ReopenedLinks.{KeepsEarlier, RequesterKeeps, RequesterStops, own_answers, own_side}
+use Rattle.nr_requester.specs.EarlierLinks.{EarlierCounts, EarlierCountsStopped, EarlierGoes, EarlierStays, KeepsEarlierOn}
+use Rattle.nr_requester.proofs.AllMarks.{forget_given, none_quiet, received_same, revoke_given, revoke_quiet, same_answers}
 use Rattle.nr_requester.proofs.KeptOn.{others_keep_on}
-use Rattle.nr_requester.proofs.AnswerSteps.{AreNoFrames, GivesUp, IsGivenUp, IsQuiet, accepted_one, all_as, all_filter, all_outcomes, asked_more, back_more, due_one, due_same, filter_both, filter_same, forgets, given_state, revokes, forget_gives, revoke_gives, done_gives, without_completed}
+use Rattle.nr_requester.proofs.AnsweredRegions.{silent_still}
+use Rattle.nr_requester.proofs.AnswerSteps.{AreNoFrames, GivesUp, IsGivenUp, IsNoFrame, IsQuiet, accepted_one, are_silent, all_as, all_filter, all_outcomes, asked_more, back_more, due_one, due_same, filter_both, filter_same, forgets, given_state, revokes, forget_gives, revoke_gives, done_gives, without_completed}
 use Rattle.nr_requester.proofs.NextBegins.{elsewhere}
-use Rattle.nr_requester.proofs.OwnSides.{AreOwn, own_given, own_state}
+use Rattle.nr_requester.proofs.OwnSides.{AreOwn, own_given, own_state, same_calls}
+use Rattle.nr_requester.proofs.StopsOn.{others_stop_on}
 
 -- the calls of the link, with those that a mark accepts
 more_calls : (opened : LinkParameters) (link : ℕ) (run : List Mark) (mark : Mark) → client_calls opened link run ++ accepted_at link mark ≡ client_calls opened link (run ++ mark ∷ [])
@@ -51,14 +57,52 @@ calls_more opened link run mark answers h =
     subst (λ (xs : List AcceptedCall). AllByRecursion (λ (a : AnsweredCall). IsAsked xs a.xid a.call) answers) (more_calls opened link run mark)
     (all_as answers (λ (a : AnsweredCall) g. asked_more (client_calls opened link run) (accepted_at link mark) a.xid a.call g) h)
 
+-- what the regions of its calls hold stays, and so do the accesses that they were placed by
+holds_more : (opened : LinkParameters) (link : ℕ) (run : List Mark) (mark : Mark) (answers : List AnsweredCall) → IsQuiet link run mark → AllByRecursion (StillHolds (client opened link run).state.next_xid (client opened link run).state) answers →
+    AllByRecursion (StillHolds (client opened link (run ++ mark ∷ [])).state.next_xid (client opened link (run ++ mark ∷ [])).state) answers
+holds_more opened link run mark answers quiet h =
+    all_as answers (λ (a : AnsweredCall) g. subst (λ (e : EndState ClientState). StillHolds e.state.next_xid e.state a) (sym (client_one opened link run mark))
+    (silent_still opened (client opened link run) (events_at link Initiator run mark) a (are_silent (events_at link Initiator run mark) quiet.0 quiet.1) g)) h
+
+state_accesses : (opened : LinkParameters) (k : ClientState) (event : RunEvent) → IsNoFrame event → (client_state_after opened k event).accesses_received ≡ k.accesses_received
+unfolding client_state_after
+state_accesses opened k (FrameReceived f) none = absurd none
+state_accesses opened k (CallSubmitted place a) none = refl
+state_accesses opened k (MemoryRevoked place xid) none = refl
+state_accesses opened k (CallExecuted call) none = refl
+state_accesses opened k (QueueWritten taken) none = refl
+state_accesses opened k (ServerTold what) none = refl
+
+next_accesses : (opened : LinkParameters) (e : EndState ClientState) (event : RunEvent) → IsNoFrame event → (next_end_state (client_rules opened) e event).state.accesses_received ≡ e.state.accesses_received
+next_accesses opened e event none = by_end e.state e.ended
+  where
+    by_why : (k : ClientState) (why : Option End) → (next_end_state_by (client_rules opened) k event why).state.accesses_received ≡ k.accesses_received
+    by_why k None = state_accesses opened k event none
+    by_why k (Some end) = refl
+
+    by_end : (k : ClientState) (ended : Option End) → (next_end_state_in (client_rules opened) k event ended).state.accesses_received ≡ k.accesses_received
+    by_end k None = by_why k (client_end k event)
+    by_end k (Some end) = refl
+
+all_accesses : (opened : LinkParameters) (e : EndState ClientState) (es : List RunEvent) → AreNoFrames es → (end_state_after (client_rules opened) e es).state.accesses_received ≡ e.state.accesses_received
+all_accesses opened e [] none = refl
+all_accesses opened e (event ∷ es) none = all_accesses opened (next_end_state (client_rules opened) e event) es none.1 ∙ next_accesses opened e event none.0
+
+accesses_more : (opened : LinkParameters) (link : ℕ) (run : List Mark) (mark : Mark) → IsQuiet link run mark → fed_at link Initiator mark ≡ [] → AreReceived (length (bytes_received link Initiator run)) (client opened link run).state.accesses_received →
+    AreReceived (length (bytes_received link Initiator (run ++ mark ∷ []))) (client opened link (run ++ mark ∷ [])).state.accesses_received
+accesses_more opened link run mark quiet no_feed h =
+    subst (λ (xs : List ℕ). AreReceived (length xs) (client opened link (run ++ mark ∷ [])).state.accesses_received) (sym (received_same link run mark no_feed))
+    (subst (λ (e : EndState ClientState). AreReceived (length (bytes_received link Initiator run)) e.state.accesses_received) (sym (client_one opened link run mark))
+    (subst (λ (accesses : List TaggedSegment). AreReceived (length (bytes_received link Initiator run)) accesses) (sym (all_accesses opened (client opened link run) (events_at link Initiator run mark) quiet.0)) h))
+
 -- ---- A call whose answer goes
 
-given_not : (given_if : Bool → StoredCall → StoredCall) (is_own : ℕ → Bool) (xid : ℕ) (cs : List StoredCall) → IsGivenUp given_if → AllByRecursion (λ (c : StoredCall). is_own c.xid ≡ false) cs → AllByRecursion (λ (c : StoredCall). is_own c.xid ≡ false) (map (λ (c : StoredCall). given_if (eqb c.xid xid) c) cs)
+pub given_not : (given_if : Bool → StoredCall → StoredCall) (is_own : ℕ → Bool) (xid : ℕ) (cs : List StoredCall) → IsGivenUp given_if → AllByRecursion (λ (c : StoredCall). is_own c.xid ≡ false) cs → AllByRecursion (λ (c : StoredCall). is_own c.xid ≡ false) (map (λ (c : StoredCall). given_if (eqb c.xid xid) c) cs)
 given_not given_if is_own xid [] g h = tt
 given_not given_if is_own xid (c ∷ cs) g h = (ap is_own (g.xid (eqb c.xid xid) c) ∙ h.0, given_not given_if is_own xid cs g h.1)
 
-goes : (given_if : Bool → StoredCall → StoredCall) (h after : RequesterSide) (xid : ℕ) (mark : ℕ → Mark) → IsGivenUp given_if → given_state given_if xid h.state after.state → ((link : ℕ) (run : List Mark) → AreNoFrames (events_at link Initiator run (mark link))) → ((link : ℕ) → GivesUp link (mark link) xid) → KeepsEarlierOn h mark after
-goes given_if h after xid mark g is quiet gives is_own opened link run s =
+goes : (given_if : Bool → StoredCall → StoredCall) (h after : RequesterSide) (xid : ℕ) (mark : ℕ → Mark) → IsGivenUp given_if → given_state given_if xid h.state after.state → ((link : ℕ) (run : List Mark) → IsQuiet link run (mark link)) → ((link : ℕ) → fed_at link Initiator (mark link) ≡ []) → ((link : ℕ) → GivesUp link (mark link) xid) → KeepsEarlierOn h mark after
+goes given_if h after xid mark g is quiet no_feed gives is_own opened link run s =
     let all : List Mark = run ++ mark link ∷ [] in
     let own : given_state given_if xid (own_state is_own h.state) (own_state is_own after.state) = own_given given_if is_own xid h.state after.state is in
     let less : (x : ℕ) → is_due link all x ≡ (is_due link run x && not (eqb x xid)) = λ x. due_one link run (mark link) x ∙ ap (λ (b : Bool). is_due link run x && not b) (gives link x) in
@@ -69,19 +113,22 @@ goes given_if h after xid mark g is quiet gives is_own opened link run s =
       to_come = λ x above. s.to_come x (let same = is.1.1 in omega (arith, same, above));
       outcomes = ap (λ (xs : List AnsweredCall). map completed_of xs) own.0 ∙ without_completed xid answers ∙ ap (λ (cs : List CompletedCall). filter (λ c. not (eqb c.xid xid)) cs) s.outcomes
           ∙ sym (filter_both (λ c. is_due link run c.xid) (λ c. not (eqb c.xid xid)) outs) ∙ sym (filter_same (λ c. is_due link all c.xid) (λ c. is_due link run c.xid && not (eqb c.xid xid)) outs (λ c. less c.xid))
-          ∙ ap (λ (cs : List CompletedCall). filter (λ c. is_due link all c.xid) cs) (sym (same_outcomes opened link run (mark link) (quiet link run)));
+          ∙ ap (λ (cs : List CompletedCall). filter (λ c. is_due link all c.xid) cs) (sym (same_outcomes opened link run (mark link) (quiet link run).0));
       hands_back = subst (λ (xs : List AnsweredCall). AllByRecursion (HandsBack opened (events link Initiator all)) xs) (sym own.0)
           (all_filter (HandsBack opened (events link Initiator all)) (λ (a : AnsweredCall). not (eqb a.xid xid)) answers (handed_back opened link run (mark link) answers s.hands_back));
+      holds = subst (λ (xs : List AnsweredCall). AllByRecursion (StillHolds (client opened link all).state.next_xid (client opened link all).state) xs) (sym own.0)
+          (all_filter (StillHolds (client opened link all).state.next_xid (client opened link all).state) (λ (a : AnsweredCall). not (eqb a.xid xid)) answers (holds_more opened link run (mark link) answers (quiet link run) s.holds));
+      accesses = accesses_more opened link run (mark link) (quiet link run) (no_feed link) s.accesses;
       calls = subst (λ (xs : List AnsweredCall). AllByRecursion (λ (a : AnsweredCall). IsAsked (client_calls opened link all) a.xid a.call) xs) (sym own.0)
           (all_filter (λ (a : AnsweredCall). IsAsked (client_calls opened link all) a.xid a.call) (λ (a : AnsweredCall). not (eqb a.xid xid)) answers (calls_more opened link run (mark link) answers s.calls));
     }
 
 pub earlier_goes : EarlierGoes
 earlier_goes h xid = (
-  λ outcome. goes forgotten_if h (after_forget h xid) xid (λ link. marks.Done link xid outcome) forgets (forget_given h xid) (λ link run. tt) (λ link. done_gives link xid outcome),
+  λ outcome. goes forgotten_if h (after_forget h xid) xid (λ link. marks.Done link xid outcome) forgets (forget_given h xid) (λ link run. (tt, tt)) (λ link. refl) (λ link. done_gives link xid outcome),
   (
-    goes forgotten_if h (after_forget h xid) xid (λ link. marks.Forget link xid) forgets (forget_given h xid) (λ link run. tt) (λ link. forget_gives link xid),
-    λ bytes. goes revoked_if h (after_revoke h xid) xid (λ link. marks.Revoke link xid bytes) revokes (revoke_given h xid) (λ link run. (revoke_quiet link run xid bytes).0) (λ link. revoke_gives link xid bytes),
+    goes forgotten_if h (after_forget h xid) xid (λ link. marks.Forget link xid) forgets (forget_given h xid) (λ link run. (tt, tt)) (λ link. refl) (λ link. forget_gives link xid),
+    λ bytes. goes revoked_if h (after_revoke h xid) xid (λ link. marks.Revoke link xid bytes) revokes (revoke_given h xid) (λ link run. revoke_quiet link run xid bytes) (λ link. refl) (λ link. revoke_gives link xid bytes),
   ),
 )
 
@@ -99,6 +146,8 @@ earlier_stays_on is_own opened link h after run mark s other answers outstanding
           ∙ sym (filter_same (λ c. is_due link all c.xid) (λ c. is_due link run c.xid) (client opened link run).state.outcomes (λ c. due_same link run mark e.none c.xid))
           ∙ ap (λ (cs : List CompletedCall). filter (λ c. is_due link all c.xid) cs) (sym (same_outcomes opened link run mark quiet.0));
       hands_back = subst (λ (xs : List AnsweredCall). AllByRecursion (HandsBack opened (events link Initiator all)) xs) (sym answers) (handed_back opened link run mark (own_answers is_own h.state) s.hands_back);
+      holds = subst (λ (xs : List AnsweredCall). AllByRecursion (StillHolds (client opened link all).state.next_xid (client opened link all).state) xs) (sym answers) (holds_more opened link run mark (own_answers is_own h.state) quiet s.holds);
+      accesses = accesses_more opened link run mark quiet e.fed s.accesses;
       calls = subst (λ (xs : List AnsweredCall). AllByRecursion (λ (a : AnsweredCall). IsAsked (client_calls opened link all) a.xid a.call) xs) (sym answers) (calls_more opened link run mark (own_answers is_own h.state) s.calls);
     }
 
@@ -117,12 +166,12 @@ unchanged given_if is_own xid [] g other own = refl
 unchanged given_if is_own xid (c ∷ cs) g other own =
     λ i. (ap (λ (b : Bool). given_if b c) (no_call is_own xid c other own.0) ∙ g.same c) i ∷ unchanged given_if is_own xid cs g other own.1 i
 
-none_found : (is_own : ℕ → Bool) (xid : ℕ) (cs : List StoredCall) → is_own xid ≡ false → AreOwn is_own cs → find (λ (c : StoredCall). eqb c.xid xid) cs ≡ None
+pub none_found : (is_own : ℕ → Bool) (xid : ℕ) (cs : List StoredCall) → is_own xid ≡ false → AreOwn is_own cs → find (λ (c : StoredCall). eqb c.xid xid) cs ≡ None
 none_found is_own xid [] other own = refl
 none_found is_own xid (c ∷ cs) other own =
     ap (λ (b : Bool). cond b (Some c) (find (λ (c : StoredCall). eqb c.xid xid) cs)) (no_call is_own xid c other own.0) ∙ none_found is_own xid cs other own.1
 
-own_stay : (is_own : ℕ → Bool) (xid : ℕ) (answers : List AnsweredCall) → is_own xid ≡ false → filter (λ (a : AnsweredCall). is_own a.xid) (without_answer xid answers) ≡ filter (λ (a : AnsweredCall). is_own a.xid) answers
+pub own_stay : (is_own : ℕ → Bool) (xid : ℕ) (answers : List AnsweredCall) → is_own xid ≡ false → filter (λ (a : AnsweredCall). is_own a.xid) (without_answer xid answers) ≡ filter (λ (a : AnsweredCall). is_own a.xid) answers
 own_stay is_own xid [] other = refl
 own_stay is_own xid (a ∷ answers) other = by (eqb a.xid xid) refl (is_own a.xid) refl (own_stay is_own xid answers other)
   where
@@ -184,21 +233,18 @@ client_same is_own opened link h after run s k = record {
 counts_more : (n m earlier more : ℕ) → m ≡ one_mark_more n → n ≡ min (earlier + more) marks_max → m ≡ min (earlier + 1 + more) marks_max
 counts_more n m earlier more is so_far = omega (arith, is, so_far)
 
+answers_stay : (is_own : ℕ → Bool) (opened : LinkParameters) (link : ℕ) (h after : RequesterSide) (run : List Mark) → Stays is_own h after → AnswersWith (map as_accepted opened.resumed) opened link (own_side is_own h) run → AnswersWith (map as_accepted opened.resumed) opened link (own_side is_own after) run
+answers_stay is_own opened link h after run s k =
+    same_answers opened (events link Initiator run) (is_due link run) (client_calls opened link run) (own_side is_own h).state (own_side is_own after).state k s.own s.outstanding (ap (λ (r : RequesterState). r.next_xid) s.same)
+
 stays_counted : (is_own : ℕ → Bool) (earlier : ℕ) (opened : LinkParameters) (link : ℕ) (h after : RequesterSide) (run : List Mark) → Stays is_own h after → RequesterKeeps is_own earlier opened link h run → RequesterKeeps is_own (earlier + 1) opened link after run
 stays_counted is_own earlier opened link h after run s k = record {
   keeps = client_same is_own opened link h after run s k.keeps;
-  calls = record {
-    outstanding = subst (λ (cs : List StoredCall). AreOwn is_own cs) (sym s.outstanding) k.calls.outstanding;
-    to_come = λ x above. k.calls.to_come x (let next = ap (λ (r : RequesterState). r.next_xid) s.same in omega (arith, next, above));
-  };
+  calls = same_calls is_own h.state after.state s.outstanding (ap (λ (r : RequesterState). r.next_xid) s.same) k.calls;
   answers = answers_stay is_own opened link h after run s k.answers;
   counted = counts_more h.marks after.marks earlier (marks_of link run) s.count k.counted;
   resent = k.resent;
 }
-  where
-    answers_stay : (is_own : ℕ → Bool) (opened : LinkParameters) (link : ℕ) (h after : RequesterSide) (run : List Mark) → Stays is_own h after → AnswersWith (map as_accepted opened.resumed) opened link (own_side is_own h) run → AnswersWith (map as_accepted opened.resumed) opened link (own_side is_own after) run
-    answers_stay is_own opened link h after run s k =
-        same_answers opened (events link Initiator run) (is_due link run) (client_calls opened link run) (own_side is_own h).state (own_side is_own after).state k s.own s.outstanding (ap (λ (r : RequesterState). r.next_xid) s.same)
 
 pub earlier_counts : EarlierCounts
 earlier_counts is_own earlier opened link h run mark xid s other elsewhere_is =
@@ -206,4 +252,24 @@ earlier_counts is_own earlier opened link h run mark xid s other elsewhere_is =
     let next : RequesterKeeps is_own earlier opened link h (run ++ mark ∷ []) = others_keep_on is_own earlier opened link h run mark s e.events e.written e.fed e.none in (
       stays_counted is_own earlier opened link h (after_forget h xid) (run ++ mark ∷ []) (forget_stays is_own h xid other s.calls.outstanding) next,
       stays_counted is_own earlier opened link h (after_revoke h xid) (run ++ mark ∷ []) (revoke_stays is_own h xid other s.calls.outstanding) next,
+    )
+
+stays_stopped : (is_own : ℕ → Bool) (earlier : ℕ) (opened : LinkParameters) (link : ℕ) (h after : RequesterSide) (stopped run : List Mark) → Stays is_own h after → RequesterStops is_own earlier opened link h stopped run → RequesterStops is_own (earlier + 1) opened link after stopped run
+stays_stopped is_own earlier opened link h after stopped run s k = record {
+  out = subst (λ (x : KeptClient). ClientRunsOut opened link x (queue_of after.state) stopped run) (kept_same is_own h after s)
+      (subst (λ (x : LinkState). ClientRunsOut opened link (kept_client h.state) (writable x.has_hello x.send_queue) stopped run) (sym s.side) k.out);
+  received = k.received;
+  written = k.written;
+  same = k.same;
+  calls = same_calls is_own h.state after.state s.outstanding (ap (λ (r : RequesterState). r.next_xid) s.same) k.calls;
+  answers = answers_stay is_own opened link h after run s k.answers;
+  counted = counts_more h.marks after.marks earlier (marks_of link run) s.count k.counted;
+}
+
+pub earlier_counts_stopped : EarlierCountsStopped
+earlier_counts_stopped is_own earlier opened link h stopped run mark xid s other elsewhere_is =
+    let e = elsewhere link run mark elsewhere_is in
+    let next : RequesterStops is_own earlier opened link h stopped (run ++ mark ∷ []) = others_stop_on is_own earlier opened link h stopped run mark s e.events e.written e.fed e.none in (
+      stays_stopped is_own earlier opened link h (after_forget h xid) stopped (run ++ mark ∷ []) (forget_stays is_own h xid other s.calls.outstanding) next,
+      stays_stopped is_own earlier opened link h (after_revoke h xid) stopped (run ++ mark ∷ []) (revoke_stays is_own h xid other s.calls.outstanding) next,
     )

@@ -11,7 +11,7 @@ use Rattle.nr_requester.specs.RequesterState.{RequesterSide}
 use Rattle.nr_requester.specs.KeptAnswers.{is_due, completed_of}
 use Rattle.nr_requester.specs.Standing.{AnswersWith}
 use Rattle.nr_requester.specs.OpenCalls.{found_answer}
-use Rattle.nr_requester.specs.Laws.{FirstIsDueFirst, FirstOut}
+use Rattle.nr_requester.specs.Laws.{DueFirst, FirstIsDueFirst, FirstOut}
 use Rattle.nr_requester.proofs.AnswerSteps.{filter_append}
 
 filter_swap : (p q : CompletedCall → Bool) (xs : List CompletedCall) → filter p (filter q xs) ≡ filter q (filter p xs)
@@ -82,7 +82,7 @@ module _ (known : List AcceptedCall) (opened : LinkParameters) (link : ℕ) (h :
       ∙ ap (λ (cs : List CompletedCall). cs ++ filter due (flat_map (outcomes_of_call outs) calls)) (of_call c ∙ none_of c.xid h.state.answered none.0)
       ∙ none_due calls none.1
 
-pub first_by : (known : List AcceptedCall) (opened : LinkParameters) (link : ℕ) (h : RequesterSide) (run : List Mark) (before after : List AcceptedCall) (call : AcceptedCall) (a : AnsweredCall) → AnswersWith known opened link h run → accepted_calls link run ≡ before ++ call ∷ after →
+first_by : (known : List AcceptedCall) (opened : LinkParameters) (link : ℕ) (h : RequesterSide) (run : List Mark) (before after : List AcceptedCall) (call : AcceptedCall) (a : AnsweredCall) → AnswersWith known opened link h run → accepted_calls link run ≡ before ++ call ∷ after →
     AllByRecursion (λ (c : AcceptedCall). found_answer c.xid h.state ≡ None) before → found_answer call.xid h.state ≡ Some a → (rest : List CompletedCall) × (outcomes_due opened link run ≡ completed_of a ∷ rest)
 unfolding outcomes_due
 first_by known opened link h run before after call a k is none there =
@@ -91,12 +91,15 @@ first_by known opened link h run before after call a k is none there =
       ap (λ (cs : List AcceptedCall). filter (λ (c : CompletedCall). is_due link run c.xid) (flat_map (outcomes_of_call (client opened link run).state.outcomes) cs)) is ∙ first.1,
     )
 
-pub none_by : (known : List AcceptedCall) (opened : LinkParameters) (link : ℕ) (h : RequesterSide) (run : List Mark) → AnswersWith known opened link h run → AllByRecursion (λ (c : AcceptedCall). found_answer c.xid h.state ≡ None) (accepted_calls link run) → outcomes_due opened link run ≡ []
+none_by : (known : List AcceptedCall) (opened : LinkParameters) (link : ℕ) (h : RequesterSide) (run : List Mark) → AnswersWith known opened link h run → AllByRecursion (λ (c : AcceptedCall). found_answer c.xid h.state ≡ None) (accepted_calls link run) → outcomes_due opened link run ≡ []
 unfolding outcomes_due
 none_by known opened link h run k none = none_due known opened link h run k (accepted_calls link run) none
 
+pub due_first : (known : List AcceptedCall) (opened : LinkParameters) (link : ℕ) (h : RequesterSide) (run : List Mark) → AnswersWith known opened link h run → DueFirst opened link h run
+due_first known opened link h run k = (λ before after call a is none there. first_by known opened link h run before after call a k is none there, λ none. none_by known opened link h run k none)
+
 pub first_is_due_first : FirstIsDueFirst
-first_is_due_first opened link h run s = (λ before after call a is none there. first_by [] opened link h run before after call a s.answers is none there, λ none. none_by [] opened link h run s.answers none)
+first_is_due_first opened link h run s = due_first [] opened link h run s.answers
 
 pub first_out : FirstOut
-first_out opened link h stopped run out = (λ before after call a is none there. first_by [] opened link h run before after call a out.answers is none there, λ none. none_by [] opened link h run out.answers none)
+first_out opened link h stopped run out = due_first [] opened link h run out.answers

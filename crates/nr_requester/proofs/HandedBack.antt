@@ -15,6 +15,7 @@ use Rattle.nr_requester.specs.HeldBytes.{AreDistinct}
 use Rattle.nr_requester.specs.Remaining.{HasKept, HasXid, IsLeast, GoesBack}
 use Rattle.nr_requester.specs.Views.{AreRising, stored_view, requester_view}
 use Rattle.nr_requester.specs.Buffers.{bytes_of_buffers}
+use Rattle.nr_requester.proofs.CallsKeep.{revoked_keeps, revoked_stops}
 use Rattle.nr_requester.proofs.GivenUp.{revoked_stands, revoked_stays_out}
 use Rattle.nr_requester.proofs.ChangedCalls.{found_at, none_found}
 use Rattle.nr_requester.proofs.FoundAnswers.{found_there}
@@ -183,4 +184,6 @@ goes_back before after xid call buffers number own least held is = record {
   number = number;
   stands = revoked_stands before after xid (bytes_of_buffers buffers) number is;
   out = revoked_stays_out before after xid (bytes_of_buffers buffers) number is;
+  keeps = revoked_keeps before after xid (bytes_of_buffers buffers) number is;
+  stops = revoked_stops before after xid (bytes_of_buffers buffers) number is;
 }

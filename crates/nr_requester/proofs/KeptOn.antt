@@ -1,7 +1,7 @@
 -- A requester of a link that may be one that was reopened goes on from mark to mark.
 use Rattle.std.proofs.Common.{◌≡◌, ℕ, zero, suc, ◌+◌, ◌-◌, ◌<◌, ◌≤◌, min, Bool, true, false, cond, ◌&&◌, List, [], ◌∷◌, ◌++◌, length, map, take, Option, None, Some, is_none, refl, sym, ap, subst, ◌∙◌, arith, append-nil}
 use Rattle.std.proofs.lemmas.List.{length-map}
-use Rattle.std.specs.List.{AllByRecursion}
+use Rattle.std.specs.List.{AllByRecursion, filter}
 use Rattle.nr_wire.specs.declared.hello.Side.TheVariants.{Initiator}
 use Rattle.nr_link.specs.declared.end.End.{End}
 use Rattle.nr_reduce.specs.declared.call.Submission.TheVariants as submissions
@@ -20,6 +20,7 @@ use Rattle.nr_reduce.specs.Run.{client}
 use Rattle.nr_reduce.proofs.Standing.{itself}
 use Rattle.nr_reduce.proofs.Steps.{client_one}
 use Rattle.nr_reduce.proofs.Unresumed.{none_after}
+use Rattle.nr_requester.specs.declared.answer.AnsweredCall.{AnsweredCall}
 use Rattle.nr_requester.specs.RequesterState.{StoredCall, RequesterState, RequesterSide, queue_of}
 use Rattle.nr_requester.specs.AfterCalls.{stored_call, after_submit, after_drain, after_revoke, revoked_if, forgotten_if, after_forget}
 use Rattle.nr_requester.specs.CountedMarks.{has_bytes, is_counted, marks_max, marks_of, marks_if}
@@ -30,11 +31,11 @@ use Rattle.nr_requester.proofs.Accepting.{answers_alike, submit_client}
 use Rattle.nr_requester.proofs.AllMarks.{HasNoEvent, submit_answers, drain_leaves, drain_marks, forget_client, forget_given, none_quiet, revoke_given, revoke_quiet, wrote_own, wrote_quiet}
 use Rattle.nr_requester.proofs.AnswerSteps.{all_append, forgets, revokes, GivesUp, given_mark, quiet_mark, forget_gives, revoke_gives, done_gives, lost_gives}
 use Rattle.nr_requester.proofs.CountedMarks.{counted_beside, others_uncounted}
-use Rattle.nr_requester.proofs.FirstDue.{first_by, none_by}
+use Rattle.nr_requester.proofs.FirstDue.{due_first}
 use Rattle.nr_requester.proofs.HeldBack.{held_for_credit, none_wait}
 use Rattle.nr_requester.proofs.Lost.{lost_client, lost_given}
 use Rattle.nr_requester.proofs.Marks.{state_of, own_events, state_next, drain_stands, revoke_stands, others_leave_client}
-use Rattle.nr_requester.proofs.OwnSides.{given_calls, own_given}
+use Rattle.nr_requester.proofs.OwnSides.{given_calls, own_given, same_calls}
 
 -- ---- All calls that could be sent again were
 
@@ -137,46 +138,71 @@ submit_keeps_on h call form plan lives unheld is is_own earlier opened link run 
 
 -- ---- A drain
 
+pub drained_calls : (is_own : ℕ → Bool) (h : RequesterSide) (n : ℕ) → HasOwnCalls is_own h.state → HasOwnCalls is_own (after_drain n h).state
+drained_calls is_own h n calls = (let l = drain_leaves h n in same_calls is_own h.state (after_drain n h).state l.outstanding l.next calls)
+
+pub drained_answers : (is_own : ℕ → Bool) (opened : LinkParameters) (link : ℕ) (h : RequesterSide) (run : List Mark) (n : ℕ) (bytes : List ℕ) → AnswersWith (map as_accepted opened.resumed) opened link (own_side is_own h) run →
+    AnswersWith (map as_accepted opened.resumed) opened link (own_side is_own (after_drain n h)) (run ++ marks.Wrote link Initiator bytes ∷ [])
+drained_answers is_own opened link h run n bytes answers =
+    let l = drain_leaves h n in
+    quiet_mark (map as_accepted opened.resumed) opened link (own_side is_own h) (own_side is_own (after_drain n h)) run (marks.Wrote link Initiator bytes) (wrote_quiet link run bytes) (λ x. refl) answers
+    (ap (λ (xs : List AnsweredCall). filter (λ a. is_own a.xid) xs) l.answered) l.outstanding l.next
+
+pub drained_marks : (h : RequesterSide) (n earlier link : ℕ) (run : List Mark) → h.marks ≡ min (earlier + marks_of link run) marks_max → (after_drain n h).marks ≡ min (earlier + marks_of link (run ++ marks.Wrote link Initiator (take n (queue_of h.state)) ∷ [])) marks_max
+drained_marks h n earlier link run is =
+    let bytes : List ℕ = take n (queue_of h.state) in
+    drain_marks h n ∙ counted_beside earlier link run (marks.Wrote link Initiator bytes) h.marks (has_bytes bytes) (wrote_own link bytes) is
+
 pub drain_keeps_on : DrainKeepsOn
 drain_keeps_on h n le fits is_own earlier opened link run s =
     let bytes : List ℕ = take n (queue_of h.state) in
     let mark : Mark = marks.Wrote link Initiator bytes in
-    let l = drain_leaves h n in
-    let own : AnswersWith (map as_accepted opened.resumed) opened link (own_side is_own (after_drain n h)) (run ++ mark ∷ []) =
-    quiet_mark (map as_accepted opened.resumed) opened link (own_side is_own h) (own_side is_own (after_drain n h)) run mark (wrote_quiet link run bytes) (λ x. refl) s.answers
-    (ap (λ (xs : List Rattle.nr_requester.specs.declared.answer.AnsweredCall.AnsweredCall). Rattle.std.specs.List.filter (λ a. is_own a.xid) xs) l.answered) l.outstanding l.next in
     record {
       keeps = drain_stands h n le fits opened link run s.keeps;
-      calls = record {
-        outstanding = subst (λ (cs : List StoredCall). AllByRecursion (λ (c : StoredCall). is_own c.xid ≡ true) cs) (sym l.outstanding) s.calls.outstanding;
-        to_come = λ xid above. s.calls.to_come xid (let same = l.next in omega (arith, same, above));
-      };
-      answers = own;
-      counted = drain_marks h n ∙ counted_beside earlier link run mark h.marks (has_bytes bytes) (wrote_own link bytes) s.counted;
+      calls = drained_calls is_own h n s.calls;
+      answers = drained_answers is_own opened link h run n bytes s.answers;
+      counted = drained_marks h n earlier link run s.counted;
       resent = calm_mark opened link run mark (QueueWritten (length bytes)) _ refl tt s.resent;
     }
 
 -- ---- A call that is revoked, given up, handed over or lost
 
-revoke_counts : (h : RequesterSide) (xid earlier link : ℕ) (run : List Mark) (mark : Mark) → is_counted link mark ≡ true → h.marks ≡ min (earlier + marks_of link run) marks_max → (after_revoke h xid).marks ≡ min (earlier + marks_of link (run ++ mark ∷ [])) marks_max
+pub revoke_counts : (h : RequesterSide) (xid earlier link : ℕ) (run : List Mark) (mark : Mark) → is_counted link mark ≡ true → h.marks ≡ min (earlier + marks_of link run) marks_max → (after_revoke h xid).marks ≡ min (earlier + marks_of link (run ++ mark ∷ [])) marks_max
 unfolding after_revoke
 revoke_counts h xid earlier link run mark own is = counted_beside earlier link run mark h.marks true own is
 
-forget_counts : (h : RequesterSide) (xid earlier link : ℕ) (run : List Mark) (mark : Mark) → is_counted link mark ≡ true → h.marks ≡ min (earlier + marks_of link run) marks_max → (after_forget h xid).marks ≡ min (earlier + marks_of link (run ++ mark ∷ [])) marks_max
+pub forget_counts : (h : RequesterSide) (xid earlier link : ℕ) (run : List Mark) (mark : Mark) → is_counted link mark ≡ true → h.marks ≡ min (earlier + marks_of link run) marks_max → (after_forget h xid).marks ≡ min (earlier + marks_of link (run ++ mark ∷ [])) marks_max
 unfolding after_forget
 forget_counts h xid earlier link run mark own is = counted_beside earlier link run mark h.marks true own is
+
+pub revoked_calls : (is_own : ℕ → Bool) (h : RequesterSide) (xid : ℕ) → HasOwnCalls is_own h.state → HasOwnCalls is_own (after_revoke h xid).state
+revoked_calls is_own h xid calls = given_calls revoked_if is_own xid h.state (after_revoke h xid).state revokes (revoke_given h xid) calls
+
+pub revoked_answers : (is_own : ℕ → Bool) (opened : LinkParameters) (link : ℕ) (h : RequesterSide) (run : List Mark) (xid : ℕ) (bytes : List ℕ) → xid < h.state.next_xid → AnswersWith (map as_accepted opened.resumed) opened link (own_side is_own h) run →
+    AnswersWith (map as_accepted opened.resumed) opened link (own_side is_own (after_revoke h xid)) (run ++ marks.Revoke link xid bytes ∷ [])
+revoked_answers is_own opened link h run xid bytes lt answers =
+    given_mark revoked_if (map as_accepted opened.resumed) opened link (own_side is_own h) (own_side is_own (after_revoke h xid)) run (marks.Revoke link xid bytes) xid revokes (revoke_quiet link run xid bytes) (revoke_gives link xid bytes) lt answers
+    (own_given revoked_if is_own xid h.state (after_revoke h xid).state (revoke_given h xid))
 
 pub revoke_keeps_on : RevokeKeepsOn
 revoke_keeps_on h xid bytes lt is_own earlier opened link run s =
     let mark : Mark = marks.Revoke link xid bytes in
     record {
       keeps = revoke_stands opened link h run xid bytes s.keeps;
-      calls = given_calls revoked_if is_own xid h.state (after_revoke h xid).state revokes (revoke_given h xid) s.calls;
-      answers = given_mark revoked_if (map as_accepted opened.resumed) opened link (own_side is_own h) (own_side is_own (after_revoke h xid)) run mark xid revokes (revoke_quiet link run xid bytes) (revoke_gives link xid bytes) lt s.answers
-          (own_given revoked_if is_own xid h.state (after_revoke h xid).state (revoke_given h xid));
+      calls = revoked_calls is_own h xid s.calls;
+      answers = revoked_answers is_own opened link h run xid bytes lt s.answers;
       counted = revoke_counts h xid earlier link run mark (itself link) s.counted;
       resent = calm_mark opened link run mark (MemoryRevoked (length (bytes_received link Initiator run)) xid) _ refl tt s.resent;
     }
+
+pub forgotten_calls : (is_own : ℕ → Bool) (h : RequesterSide) (xid : ℕ) → HasOwnCalls is_own h.state → HasOwnCalls is_own (after_forget h xid).state
+forgotten_calls is_own h xid calls = given_calls forgotten_if is_own xid h.state (after_forget h xid).state forgets (forget_given h xid) calls
+
+pub forgotten_answers : (is_own : ℕ → Bool) (opened : LinkParameters) (link : ℕ) (h : RequesterSide) (run : List Mark) (mark : Mark) (xid : ℕ) → events_at link Initiator run mark ≡ [] → GivesUp link mark xid → xid < h.state.next_xid →
+    AnswersWith (map as_accepted opened.resumed) opened link (own_side is_own h) run → AnswersWith (map as_accepted opened.resumed) opened link (own_side is_own (after_forget h xid)) (run ++ mark ∷ [])
+forgotten_answers is_own opened link h run mark xid no_events gives lt answers =
+    given_mark forgotten_if (map as_accepted opened.resumed) opened link (own_side is_own h) (own_side is_own (after_forget h xid)) run mark xid forgets (none_quiet (events_at link Initiator run mark) no_events) gives lt answers
+    (own_given forgotten_if is_own xid h.state (after_forget h xid).state (forget_given h xid))
 
 -- a mark that has no event, is counted, and gives up the call of an xid
 given_keeps_on : (h : RequesterSide) (mark : ℕ → Mark) (xid : ℕ) → ((link : ℕ) → HasNoEvent link (mark link)) → ((link : ℕ) → GivesUp link (mark link) xid) → ((link : ℕ) → is_counted link (mark link) ≡ true) → xid < h.state.next_xid → KeepsOn h mark (after_forget h xid)
@@ -184,9 +210,8 @@ given_keeps_on h mark xid none gives own lt is_own earlier opened link run s =
     let n = none link run in
     record {
       keeps = forget_client opened link h (run ++ mark link ∷ []) xid (others_leave_client opened link h run (mark link) s.keeps n.0 n.1.0 n.1.1);
-      calls = given_calls forgotten_if is_own xid h.state (after_forget h xid).state forgets (forget_given h xid) s.calls;
-      answers = given_mark forgotten_if (map as_accepted opened.resumed) opened link (own_side is_own h) (own_side is_own (after_forget h xid)) run (mark link) xid forgets (none_quiet (events_at link Initiator run (mark link)) n.0) (gives link) lt s.answers
-          (own_given forgotten_if is_own xid h.state (after_forget h xid).state (forget_given h xid));
+      calls = forgotten_calls is_own h xid s.calls;
+      answers = forgotten_answers is_own opened link h run (mark link) xid n.0 (gives link) lt s.answers;
       counted = forget_counts h xid earlier link run (mark link) (own link) s.counted;
       resent = quiet_resent opened link run (mark link) n.0 s.resent;
     }
@@ -226,7 +251,4 @@ pub answers_as_kept : AnswersAsKept
 answers_as_kept is_own earlier opened link h run call form s = answers_alike opened link h run call form s.keeps (held_for_credit opened link h run s.keeps s.resent)
 
 pub first_is_kept : FirstIsKept
-first_is_kept is_own earlier opened link h run s = (
-  λ before after call a is none there. first_by (map as_accepted opened.resumed) opened link (own_side is_own h) run before after call a s.answers is none there,
-  λ none. none_by (map as_accepted opened.resumed) opened link (own_side is_own h) run s.answers none,
-)
+first_is_kept is_own earlier opened link h run s = due_first (map as_accepted opened.resumed) opened link (own_side is_own h) run s.answers

@@ -90,3 +90,13 @@ pub mod CallsKeep
 pub mod OutcomesAccepted
 pub mod KeptLaw
 pub mod EarlierLinks
+pub mod StopsOn
+pub mod StoppedLaw
+pub mod EarlierBeside
+pub mod KeptState
+pub mod NoMarks
+pub mod SameTerms
+pub mod SizedCalls
+pub mod SizedLinks
+pub mod NextOpened
+pub mod OwnAlike

@@ -17,7 +17,7 @@ use Rattle.nr_reduce.specs.Events.{if_own, events_at, events}
 use Rattle.nr_reduce.specs.Events.RunEvent.{FrameReceived, CallSubmitted, MemoryRevoked, CallExecuted, QueueWritten, ServerTold}
 use Rattle.nr_reduce.specs.History.{CompletedCall, bytes_received, written_at, fed_at}
 use Rattle.nr_reduce.specs.KeptClient.{CanResume}
-use Rattle.nr_reduce.specs.Opening.{AreResumed, IsOpened, lengths_before}
+use Rattle.nr_reduce.specs.Opening.{IsOpened}
 use Rattle.nr_reduce.specs.Reopening.{reopened}
 use Rattle.nr_reduce.specs.SubmitAnswer.{calls_to_resend}
 use Rattle.nr_reduce.specs.Run.{client}
@@ -33,29 +33,7 @@ use Rattle.nr_requester.proofs.KeptOn.{others_keep_on}
 use Rattle.nr_requester.proofs.CallsGoOn.{again_xids, all_answered, calls_go_on, earlier_stays, none_above, none_answered}
 use Rattle.nr_requester.proofs.NextLinks.{next_link_begins}
 use Rattle.nr_requester.proofs.NextAnswers.{next_answers}
-
--- ---- The calls with which a link is opened can be resumed
-
-below_next : (agreed : Agreement) (from : ℕ) (rs : List ResumedCall) (next : ℕ) → AreResumed agreed from rs next → from ≤ next
-below_next agreed from [] next h = h
-below_next agreed from (r ∷ rs) next h = (let first = h.0 in let later = below_next agreed (r.xid + 1) rs next h.1.1 in omega (arith, first, later))
-
-above_all : (agreed : Agreement) (from x : ℕ) (rs : List ResumedCall) (next : ℕ) → AreResumed agreed from rs next → x < from → AllByRecursion (λ (c : ResumedCall). x < c.xid) rs
-above_all agreed from x [] next h lt = tt
-above_all agreed from x (r ∷ rs) next h lt = (
-  (let first = h.0 in omega (arith, first, lt)),
-  above_all agreed (r.xid + 1) x rs next h.1.1 (let first = h.0 in omega (arith, first, lt)),
-)
-
-can_resume : (agreed : Agreement) (from : ℕ) (rs : List ResumedCall) (next : ℕ) → AreResumed agreed from rs next → CanResume rs next
-can_resume agreed from [] next h = tt
-can_resume agreed from (r ∷ rs) next h = (
-  h.1.0.planned,
-  (
-    (let later = below_next agreed (r.xid + 1) rs next h.1.1 in omega (arith, later)),
-    (above_all agreed (r.xid + 1) r.xid rs next h.1.1 (omega arith), can_resume agreed (r.xid + 1) rs next h.1.1),
-  ),
-)
+use Rattle.nr_requester.proofs.NextOpened.{next_resumes}
 
 -- ---- The next link has no answer yet, and all its calls belong to it
 
@@ -79,11 +57,11 @@ unfolding client events calls_to_resend
 none_yet next link = refl
 
 next_stands : (is_own : ℕ → Bool) (earlier : ℕ) (opened : LinkParameters) (link next : ℕ) (h : RequesterSide) (run : List Mark) (staging : List ℕ) → IsOpened opened → AskedSoFar opened link run → RequesterKeeps is_own earlier opened link h run → h.state.side.ended ≡ None →
-    IsOpened (reopened opened link run) → RequesterKeeps (next_own h.state) h.marks (reopened opened link run) next (after_reopen h staging) []
+    RequesterKeeps (next_own h.state) h.marks (reopened opened link run) next (after_reopen h staging) []
 unfolding after_reopen calls_again
-next_stands is_own earlier opened link next h run staging opens asked stands live opens_next =
+next_stands is_own earlier opened link next h run staging opens asked stands live =
     let p : LinkParameters = reopened opened link run in
-    let can : CanResume p.resumed p.first_xid = can_resume (lengths_before p.agreed) 1 p.resumed p.first_xid opens_next.resumed in
+    let can : CanResume p.resumed p.first_xid = next_resumes is_own earlier opened link h run opens asked stands live in
     let on = calls_go_on is_own earlier opened link h run opens asked stands live in
     let none : filter (λ (a : AnsweredCall). next_own h.state a.xid) h.state.answered ≡ [] = none_left (λ (xid : ℕ). is_some (found_answer xid h.state)) h.state.answered (all_answered h.state.answered) in
     record {
@@ -173,7 +151,7 @@ marks_elsewhere is_own earlier opened link h before (mark ∷ run) none s =
     (marks_elsewhere is_own earlier opened link h (before ++ mark ∷ []) run none.1 (others_keep_on is_own earlier opened link h before mark s e.events e.written e.fed e.none))
 
 pub next_begins : NextBegins
-next_begins h staging live is_own earlier opened link next run opens asked stands opens_next none = (
-  marks_elsewhere (next_own h.state) h.marks (reopened opened link run) next (after_reopen h staging) [] run none (next_stands is_own earlier opened link next h run staging opens asked stands live opens_next),
+next_begins h staging live is_own earlier opened link next run opens asked stands none = (
+  marks_elsewhere (next_own h.state) h.marks (reopened opened link run) next (after_reopen h staging) [] run none (next_stands is_own earlier opened link next h run staging opens asked stands live),
   earlier_stays is_own earlier opened link h run staging opens asked stands live,
 )

@@ -41,7 +41,7 @@ none_completed xid (x ∷ cs) none c there e = by (eqb x.xid xid) refl (λ f g. 
     by false is rest f (inl same) = absurd (let wrong : true ≡ false = sym (eq-eqb x.xid xid (ap (λ (y : CompletedCall). y.xid) same ∙ e)) ∙ is in cc)
     by false is rest f (inr g) = rest f g
 
-awaited_from : (calls : List AcceptedCall) (link : ℕ) (run : List Mark) (xid : ℕ) (call : Call) → IsAsked calls xid call → is_due link run xid ≡ true → IsAwaitedOf calls link run xid
+pub awaited_from : (calls : List AcceptedCall) (link : ℕ) (run : List Mark) (xid : ℕ) (call : Call) → IsAsked calls xid call → is_due link run xid ≡ true → IsAwaitedOf calls link run xid
 awaited_from calls link run xid call asked due =
     let d = due_parts (is_abandoned link xid run) (is_completed link xid run) due in
     record {
@@ -83,13 +83,20 @@ all_mapped : (P : CompletedCall → Type 0) (answers : List AnsweredCall) → Al
 all_mapped P [] h = tt
 all_mapped P (a ∷ answers) h = (h.0, all_mapped P answers h.1)
 
--- each has an outcome that is due
-pub answers_due : (calls : List AcceptedCall) (opened : LinkParameters) (link : ℕ) (h : RequesterSide) (run : List Mark) → AnswersWith calls opened link h run →
-    AllByRecursion (λ (a : AnsweredCall). (is_due link run a.xid ≡ true) × Among (completed_of a) (client opened link run).state.outcomes) h.state.answered
+-- its answers have the outcomes that are due
+abbrev pub HaveDue : LinkParameters → ℕ → RequesterSide → List Mark → Type 0
+HaveDue opened link h run = map completed_of h.state.answered ≡ filter (λ c. is_due link run c.xid) (client opened link run).state.outcomes
+
+pub have_due : (calls : List AcceptedCall) (opened : LinkParameters) (link : ℕ) (h : RequesterSide) (run : List Mark) → AnswersWith calls opened link h run → HaveDue opened link h run
 unfolding client
-answers_due calls opened link h run k =
+have_due calls opened link h run k = k.outcomes
+
+-- so each has one
+pub each_due : (opened : LinkParameters) (link : ℕ) (h : RequesterSide) (run : List Mark) → HaveDue opened link h run →
+    AllByRecursion (λ (a : AnsweredCall). (is_due link run a.xid ≡ true) × Among (completed_of a) (client opened link run).state.outcomes) h.state.answered
+each_due opened link h run outcomes =
     all_mapped (λ c. (is_due link run c.xid ≡ true) × Among c (client opened link run).state.outcomes) h.state.answered
-    (subst (λ (cs : List CompletedCall). AllByRecursion (λ c. (is_due link run c.xid ≡ true) × Among c (client opened link run).state.outcomes) cs) (sym k.outcomes)
+    (subst (λ (cs : List CompletedCall). AllByRecursion (λ c. (is_due link run c.xid ≡ true) × Among c (client opened link run).state.outcomes) cs) (sym outcomes)
     (all_filtered (λ (c : CompletedCall). is_due link run c.xid) (client opened link run).state.outcomes))
 
 -- ---- An open ticket
@@ -114,7 +121,7 @@ open_awaits calls opened link h run xid k is_open = by (found_call xid h.state) 
     by : (c : Option StoredCall) (a : Option AnsweredCall) → found_call xid h.state ≡ c → found_answer xid h.state ≡ a → is_some (call_with c a) ≡ true → IsAwaitedOf all link run xid
     by None None there answer e = absurd cc
     by None (Some a) there answer e =
-        let due = answer_one (λ (a : AnsweredCall). (is_due link run a.xid ≡ true) × Among (completed_of a) (client opened link run).state.outcomes) xid a h.state.answered (answers_due calls opened link h run k) answer in
+        let due = answer_one (λ (a : AnsweredCall). (is_due link run a.xid ≡ true) × Among (completed_of a) (client opened link run).state.outcomes) xid a h.state.answered (each_due opened link h run (have_due calls opened link h run k)) answer in
         let asked = answer_one (λ (a : AnsweredCall). IsAsked all a.xid a.call) xid a h.state.answered k.calls answer in
         subst (λ (x : ℕ). IsAwaitedOf all link run x) (found_own xid h.state.answered a answer) (awaited_from all link run a.xid a.call asked due.0)
     by (Some c) a there answer e =
@@ -188,11 +195,11 @@ answered_accepted opened link h run xid a k answer =
     let given = answer_one (λ (a : AnsweredCall). IsAsked (accepted_calls link run) a.xid a.call) xid a h.state.answered k.calls answer in
     (record { xid = a.xid; call = a.call; form = given.0 }, (given.1, found_own xid h.state.answered a answer))
 
-pub done_keeps : (calls : List AcceptedCall) (opened : LinkParameters) (link : ℕ) (h : RequesterSide) (run : List Mark) (xid : ℕ) (a : AnsweredCall) → AnswersWith calls opened link h run → found_answer xid h.state ≡ Some a → HasAccepted link run xid → AskedSoFar opened link run → KeepsGrant opened link run →
+pub done_keeps : (opened : LinkParameters) (link : ℕ) (h : RequesterSide) (run : List Mark) (xid : ℕ) (a : AnsweredCall) → HaveDue opened link h run → found_answer xid h.state ≡ Some a → HasAccepted link run xid → AskedSoFar opened link run → KeepsGrant opened link run →
     AskedSoFar opened link (run ++ marks.Done link xid a.outcome ∷ []) × KeepsGrant opened link (run ++ marks.Done link xid a.outcome ∷ [])
-done_keeps calls opened link h run xid a k answer there asked grant =
+done_keeps opened link h run xid a outcomes answer there asked grant =
     let mark : Mark = marks.Done link xid a.outcome in
-    let due = answer_one (λ (a : AnsweredCall). (is_due link run a.xid ≡ true) × Among (completed_of a) (client opened link run).state.outcomes) xid a h.state.answered (answers_due calls opened link h run k) answer in
+    let due = answer_one (λ (a : AnsweredCall). (is_due link run a.xid ≡ true) × Among (completed_of a) (client opened link run).state.outcomes) xid a h.state.answered (each_due opened link h run outcomes) answer in
     let own : a.xid ≡ xid = found_own xid h.state.answered a answer in
     let is : IsCompleted opened link run xid a.outcome = record {
       awaited = accepted_awaited link run xid there (ap (λ (x : ℕ). is_due link run x) (sym own) ∙ due.0);
@@ -201,10 +208,10 @@ done_keeps calls opened link h run xid a k answer there asked grant =
     (AtEachMark_more (AskedMark IsPrefixOf opened link) [] run mark asked (λ same. is), AtEachMark_more (WithinGrant opened link) [] run mark grant tt)
 
 pub done_keeps_law : DoneKeepsLaw
-done_keeps_law opened link h run xid a s answer asked grant = done_keeps [] opened link h run xid a s.answers answer (answered_accepted opened link h run xid a s.answers answer) asked grant
+done_keeps_law opened link h run xid a s answer asked grant = done_keeps opened link h run xid a (have_due [] opened link h run s.answers) answer (answered_accepted opened link h run xid a s.answers answer) asked grant
 
 pub done_out_keeps_law : DoneOutKeepsLaw
-done_out_keeps_law opened link h stopped run xid a out answer asked grant = done_keeps [] opened link h run xid a out.answers answer (answered_accepted opened link h run xid a out.answers answer) asked grant
+done_out_keeps_law opened link h stopped run xid a out answer asked grant = done_keeps opened link h run xid a (have_due [] opened link h run out.answers) answer (answered_accepted opened link h run xid a out.answers answer) asked grant
 
 -- an outcome that is due is that of an answer
 of_answer : (xid : ℕ) (c : CompletedCall) (answers : List AnsweredCall) → Among c (map completed_of answers) → c.xid ≡ xid → find (λ (a : AnsweredCall). eqb a.xid xid) answers ≢ None

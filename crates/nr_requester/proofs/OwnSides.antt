@@ -86,9 +86,9 @@ frame_own is_own r (HelloFrom side) frame own = refl
 frame_own is_own r Fpdu frame own = unless_own is_own r (with_frame r.side Fpdu frame) (with_frame r.side Fpdu frame).ended own
 
 -- its calls are some of those before it, and the next xid stays
-record Leaves (P : StoredCall → Type 0) (r after : RequesterState) : Type 0 where
-  calls : AllByRecursion P after.outstanding
-  next : after.next_xid ≡ r.next_xid
+pub record Leaves (P : StoredCall → Type 0) (r after : RequesterState) : Type 0 where
+  pub calls : AllByRecursion P after.outstanding
+  pub next : after.next_xid ≡ r.next_xid
 
 judged_leaves : (P : StoredCall → Type 0) (r : RequesterState) (s : LinkState) (message : List ℕ) (v : ReplyVerdict) → AllByRecursion P r.outstanding → Leaves P r (judged r s message v)
 judged_leaves P r s message (EndsLink reason) all = record { calls = all; next = refl }
@@ -104,14 +104,14 @@ unless_leaves : (P : StoredCall → Type 0) (r : RequesterState) (s : LinkState)
 unless_leaves P r s None all = told_leaves P r s s.receive_queue.deliveries all
 unless_leaves P r s (Some end) all = record { calls = all; next = refl }
 
-frame_leaves : (P : StoredCall → Type 0) (r : RequesterState) (a : Awaited) (frame : List ℕ) → AllByRecursion P r.outstanding → Leaves P r (after_frame r a frame)
+pub frame_leaves : (P : StoredCall → Type 0) (r : RequesterState) (a : Awaited) (frame : List ℕ) → AllByRecursion P r.outstanding → Leaves P r (after_frame r a frame)
 unfolding after_fpdu
 frame_leaves P r (HelloFrom side) frame all = record { calls = all; next = refl }
 frame_leaves P r Fpdu frame all = unless_leaves P r (with_frame r.side Fpdu frame) (with_frame r.side Fpdu frame).ended all
 
 -- ---- All frames of a piece
 
-abbrev frames_state : List (List ℕ) → List ℕ → Awaited → RequesterState → RequesterState
+abbrev pub frames_state : List (List ℕ) → List ℕ → Awaited → RequesterState → RequesterState
 frames_state frames rest a r = (feeding_after_frames requester_ended after_frame frames rest a r).state
 
 own_frames : (is_own : ℕ → Bool) (frames : List (List ℕ)) (rest : List ℕ) (a : Awaited) (r : RequesterState) → AreOwn is_own r.outstanding → own_state is_own (frames_state frames rest a r) ≡ frames_state frames rest a (own_state is_own r)
@@ -126,7 +126,7 @@ own_frames is_own (f ∷ frames) rest a r own =
     by true later = refl
     by false later = later
 
-leave_frames : (P : StoredCall → Type 0) (frames : List (List ℕ)) (rest : List ℕ) (a : Awaited) (r : RequesterState) → AllByRecursion P r.outstanding → Leaves P r (frames_state frames rest a r)
+pub leave_frames : (P : StoredCall → Type 0) (frames : List (List ℕ)) (rest : List ℕ) (a : Awaited) (r : RequesterState) → AllByRecursion P r.outstanding → Leaves P r (frames_state frames rest a r)
 leave_frames P [] rest a r all = record { calls = all; next = refl }
 leave_frames P (f ∷ frames) rest a r all =
     let one : Leaves P r (after_frame r a f) = frame_leaves P r a f all in
@@ -147,6 +147,14 @@ unfolding after_piece feeding_after
 piece_calls is_own h piece calls =
     let left = leave_frames (λ (c : StoredCall). is_own c.xid ≡ true) (split h.awaited (h.rest ++ piece)).frames (split h.awaited (h.rest ++ piece)).rest h.awaited h.state calls.outstanding in
     record { outstanding = left.calls; to_come = λ xid above. calls.to_come xid (let same = left.next in omega (arith, same, above)) }
+
+-- ---- One with the same calls
+
+pub same_calls : (is_own : ℕ → Bool) (r r2 : RequesterState) → r2.outstanding ≡ r.outstanding → r2.next_xid ≡ r.next_xid → HasOwnCalls is_own r → HasOwnCalls is_own r2
+same_calls is_own r r2 outstanding next calls = record {
+  outstanding = subst (λ (cs : List StoredCall). AreOwn is_own cs) (sym outstanding) calls.outstanding;
+  to_come = λ xid above. calls.to_come xid (omega (arith, next, above));
+}
 
 -- ---- Its client
 

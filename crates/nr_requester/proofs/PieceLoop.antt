@@ -30,6 +30,7 @@ use Rattle.nr_requester.specs.RequesterState.{RequesterState, RequesterFeeding, 
 use Rattle.nr_requester.specs.CountedMarks.{has_bytes, marks_if}
 use Rattle.nr_requester.proofs.CountedMarks.{some_bytes}
 use Rattle.nr_requester.specs.OpenCalls.{KeepsTickets}
+use Rattle.nr_requester.specs.ReopenedLinks.{StopsAfter}
 use Rattle.nr_requester.specs.Standing.{StandsOn, RequesterRepresents, RequesterRunsOut}
 use Rattle.nr_requester.specs.AfterPiece.{with_dead, judged, with_deliveries, unless_ended, requester_ended, after_frame, after_piece, after_fed, RanOut}
 use Rattle.nr_requester.specs.Fed.{one_step, StepOut, IsStep, QueuesOutput, bytes_fed, taken_by, late_marks, TakesFrames, RequesterRanOutAt}
@@ -37,6 +38,7 @@ use Rattle.nr_requester.proofs.Stepping.{link_of, told_of, step_fed, piece_rest}
 use Rattle.nr_requester.proofs.RunOut.{fed_out}
 use Rattle.nr_requester.proofs.Fed.{piece_is_a_mark}
 use Rattle.nr_requester.proofs.AllMarks.{piece_runs_out}
+use Rattle.nr_requester.proofs.StopsOn.{piece_stops}
 
 -- ---- A step
 
@@ -329,12 +331,13 @@ stands_fed old new piece is opened link run s = subst (λ (h : RequesterSide). R
 
 abbrev pub FedOut : RequesterSide → List ℕ → RequesterSide → Type 0
 FedOut old piece new = (n : ℕ) × (RequesterRanOutAt (feeding_of old) piece n (feeding_of new)
-    × ((opened : LinkParameters) (link : ℕ) (run : List Mark) → RequesterRepresents opened link old run →
-    RequesterRunsOut opened link new (run ++ marks.Fed link Initiator (take n piece) ∷ []) (run ++ marks.Fed link Initiator (take n piece) ∷ [])))
+    × (((opened : LinkParameters) (link : ℕ) (run : List Mark) → RequesterRepresents opened link old run →
+    RequesterRunsOut opened link new (run ++ marks.Fed link Initiator (take n piece) ∷ []) (run ++ marks.Fed link Initiator (take n piece) ∷ []))
+    × StopsAfter old (take n piece) new))
 
 out_fed : (old new : RequesterSide) (piece : List ℕ) (n : ℕ) → TakesFrames (feeding_of old) piece n (feeding_of new) → new.state.side.ended ≡ Some ends.Memory → (n ≤ length piece → CountsPiece old (take n piece) new) → FedOut old piece new
 out_fed old new piece n (inl all) memory counts = absurd (all.1.0 memory)
-out_fed old new piece n (inr out) memory counts = (n, (out, λ opened link run s. piece_runs_out old new (take n piece) out.live out.out (counts out.within) opened link run s))
+out_fed old new piece n (inr out) memory counts = (n, (out, ((λ opened link run s. piece_runs_out old new (take n piece) out.live out.out (counts out.within) opened link run s), piece_stops old new (take n piece) out.live out.out (counts out.within))))
 
 taken_fed : (old new : RequesterSide) (piece : List ℕ) (n : ℕ) → TakesFrames (feeding_of old) piece n (feeding_of new) → new.state.side.ended ≢ Some ends.Memory → (n ≤ length piece → CountsPiece old (take n piece) new) → new ≡ after_fed old piece new.staging
 taken_fed old new piece n (inl all) other counts =

@@ -12,7 +12,8 @@ use Rattle.nr_reduce.specs.ClientState.{ClientState, OutstandingCall, client_mem
 use Rattle.nr_reduce.specs.Run.{client, placed_bytes, grants_of}
 use Rattle.nr_reduce.specs.EndRules.{EndState}
 use Rattle.nr_reduce.specs.KeptCalls.{numbered_calls}
-use Rattle.nr_requester.specs.Standing.{AnswersWith, RequesterRepresents, RequesterRunsOut}
+use Rattle.nr_reduce.specs.Standing.{ClientRunsOut}
+use Rattle.nr_requester.specs.Standing.{AnswersWith, RequesterRepresents}
 use Rattle.nr_reduce.specs.Matched.{IsPrefixOf}
 use Rattle.nr_reduce.specs.Asked.{AskedMark, IsRevoked, revoked_bytes}
 use Rattle.nr_reduce.specs.Credits.{WithinGrant}
@@ -21,12 +22,12 @@ use Rattle.nr_reduce.specs.Plans.{buffers}
 use Rattle.nr_reduce.specs.KeptCalls.{KeptCall, stags_unless}
 use Rattle.nr_reduce.specs.KeptClient.{bytes_under, IsWaiting, HasRegionsOf}
 use Rattle.nr_reduce.proofs.Standing.{AtEachMark_more}
-use Rattle.nr_requester.specs.RequesterState.{StoredCall, RequesterSide, stags_of, kept_call}
+use Rattle.nr_requester.specs.RequesterState.{StoredCall, RequesterSide, kept_client, queue_of, stags_of, kept_call}
 use Rattle.nr_requester.specs.Laws.{HoldsPlaced, BuffersArePlaced, RevokeKeepsLaw, RevokedOut}
 use Rattle.nr_requester.specs.declared.answer.AnsweredCall.{AnsweredCall}
 use Rattle.nr_requester.specs.declared.answer.Buffers.{Buffers}
 use Rattle.nr_requester.specs.Buffers.{buffer_bytes, bytes_of_buffers}
-use Rattle.nr_requester.specs.KeptAnswers.{one_buffer, buffers_in, regions_of}
+use Rattle.nr_requester.specs.KeptAnswers.{StillHolds, one_buffer, buffers_in, regions_of}
 use Rattle.nr_requester.proofs.FoundAnswers.{found_own}
 use Rattle.nr_requester.proofs.OpenTickets.{answer_one}
 use Rattle.nr_requester.proofs.AnsweredRegions.{own_of_numbered, still_placed}
@@ -37,11 +38,13 @@ use Rattle.nr_requester.specs.OpenCalls.{IsOutstanding, found_call, found_answer
 use Rattle.nr_requester.proofs.Releases.{joined_buffers}
 use Rattle.nr_requester.specs.CallRegions.{CallsOffer, OffersPlan, call_stags}
 use Rattle.nr_requester.proofs.FoundCalls.{found_one}
-use Rattle.nr_requester.proofs.RunOut.{memory_as_client, memory_kept, memory_out_lem}
+use Rattle.nr_requester.proofs.AllMarks.{IsAsStopped}
+use Rattle.nr_requester.proofs.RunOut.{memory_as_client, memory_by, memory_kept}
 use Rattle.nr_reduce.specs.Asked.{as_accepted}
 use Rattle.nr_reduce.specs.History.{AcceptedCall}
 use Rattle.nr_requester.specs.ReopenedLinks.{own_side}
 use Rattle.nr_requester.specs.KeptOn.{BuffersAreKept}
+use Rattle.nr_requester.specs.StoppedLinks.{BuffersStopped}
 use Rattle.nr_requester.proofs.OwnSides.{own_found}
 use Rattle.nr_reduce.proofs.Unresumed.{awaited_or_waits}
 
@@ -152,17 +155,21 @@ joined_regions : (f : Region → List ℕ) (rs : List Region) → concat (map f 
 joined_regions f [] = refl
 joined_regions f (r ∷ rs) = ap (λ (xs : List ℕ). f r ++ xs) (joined_regions f rs)
 
-answered_are : (calls : List AcceptedCall) (opened : LinkParameters) (link : ℕ) (h : RequesterSide) (run : List Mark) (xid count : ℕ) (a : AnsweredCall) → AnswersWith calls opened link h run → AreReceived count (client opened link run).state.accesses_received → found_answer xid h.state ≡ Some a →
+pub answer_bytes : (opened : LinkParameters) (link : ℕ) (run : List Mark) (xid count : ℕ) (a : AnsweredCall) → a.xid ≡ xid → StillHolds (client opened link run).state.next_xid (client opened link run).state a → AreReceived count (client opened link run).state.accesses_received →
     bytes_of_buffers a.buffers ≡ revoked_bytes opened link run xid
-unfolding client placed_bytes grants_of
-answered_are calls opened link h run xid count a k received there =
+unfolding placed_bytes grants_of
+answer_bytes opened link run xid count a own still received =
     let s : ClientState = (client opened link run).state in
     let place : ℕ = length (bytes_received link Initiator run) in
-    let own : a.xid ≡ xid = found_own xid h.state.answered a there in
     sym (joined a.buffers)
-    ∙ ap concat (still_placed s place count _ a (own_of_numbered opened.first_stag s.regions (client_known opened link run).regions) received (answer_one _ xid a h.state.answered k.holds there))
+    ∙ ap concat (still_placed s place count _ a (own_of_numbered opened.first_stag s.regions (client_known opened link run).regions) received still)
     ∙ joined_regions (λ (r : Region). client_memory_at s place r.stag) (regions_of a.xid s)
     ∙ ap (λ (x : ℕ). flat_map (λ (r : Region). client_memory_at s place r.stag) (regions_of x s)) own
+
+answered_are : (calls : List AcceptedCall) (opened : LinkParameters) (link : ℕ) (h : RequesterSide) (run : List Mark) (xid count : ℕ) (a : AnsweredCall) → AnswersWith calls opened link h run → AreReceived count (client opened link run).state.accesses_received → found_answer xid h.state ≡ Some a →
+    bytes_of_buffers a.buffers ≡ revoked_bytes opened link run xid
+unfolding client
+answered_are calls opened link h run xid count a k received there = answer_bytes opened link run xid count a (found_own xid h.state.answered a there) (answer_one _ xid a h.state.answered k.holds there) received
 
 -- of each call that is left
 left_are : (opened : LinkParameters) (link : ℕ) (h : RequesterSide) (run : List Mark) (xid : ℕ) → (IsOutstanding xid h.state → bytes_of_buffers (buffers_of xid h.state) ≡ revoked_bytes opened link run xid) →
@@ -196,20 +203,29 @@ revoke_keeps_law opened link h run xid s there awaited asked grant =
     (AtEachMark_more (AskedMark IsPrefixOf opened link) [] run mark asked (λ same. is), AtEachMark_more (WithinGrant opened link) [] run mark grant tt)
 
 -- what a revoke hands back by its marks is what it would have handed back when it stopped
-revoked_same : (opened : LinkParameters) (link : ℕ) (h : RequesterSide) (stopped run : List Mark) (xid : ℕ) → RequesterRunsOut opened link h stopped run → revoked_bytes opened link stopped xid ≡ revoked_bytes opened link run xid
+revoked_same : (opened : LinkParameters) (link : ℕ) (stopped run : List Mark) (xid written : ℕ) → bytes_received link Initiator run ≡ bytes_received link Initiator stopped → IsAsStopped opened link stopped run written → revoked_bytes opened link stopped xid ≡ revoked_bytes opened link run xid
 unfolding placed_bytes grants_of
-revoked_same opened link h stopped run xid out = λ i.
-    flat_map (λ (r : Region). region_bytes (region_grants (length (sym out.received i)) (sym out.same i).state.regions) (sym out.same i).state.regions (sym out.same i).state.accesses_received r.stag)
-    (filter (λ (r : Region). eqb r.call xid) (sym out.same i).state.regions)
+revoked_same opened link stopped run xid written received same = λ i.
+    flat_map (λ (r : Region). region_bytes (region_grants (length (sym received i)) (sym same i).state.regions) (sym same i).state.regions (sym same i).state.accesses_received r.stag)
+    (filter (λ (r : Region). eqb r.call xid) (sym same i).state.regions)
 
-outstanding_out : (opened : LinkParameters) (link : ℕ) (h : RequesterSide) (stopped run : List Mark) (xid : ℕ) → RequesterRunsOut opened link h stopped run → IsOutstanding xid h.state → bytes_of_buffers (buffers_of xid h.state) ≡ revoked_bytes opened link run xid
-outstanding_out opened link h stopped run xid out there =
-    let now : CallsOffer _ (client opened link run).state = offers_after [] opened link h run out.answers in
-    let then : CallsOffer _ (record (client opened link stopped).state { written = out.written }) = subst (λ (e : EndState ClientState). CallsOffer e.state.next_xid e.state) out.same now in
-    buffers_are opened link h stopped xid (memory_out_lem opened link h stopped run out) (record { before = then.before; calls = then.calls }) out.out.keeps.waits there
-    ∙ revoked_same opened link h stopped run xid out
+-- so are the buffers of each call that is left, if those of its answers are
+stopped_are : (opened : LinkParameters) (link : ℕ) (h : RequesterSide) (stopped run : List Mark) (xid written : ℕ) → ClientRunsOut opened link (kept_client h.state) (queue_of h.state) stopped run → bytes_received link Initiator run ≡ bytes_received link Initiator stopped →
+    IsAsStopped opened link stopped run written → CallsOffer (client opened link run).state.next_xid (client opened link run).state →
+    ((a : AnsweredCall) → AreReceived (length (bytes_received link Initiator stopped)) (client opened link run).state.accesses_received → found_answer xid h.state ≡ Some a → bytes_of_buffers a.buffers ≡ revoked_bytes opened link run xid) →
+    is_some (remaining_call xid h.state) ≡ true → bytes_of_buffers (buffers_of xid h.state) ≡ revoked_bytes opened link run xid
+stopped_are opened link h stopped run xid written out received same now answered =
+    let then : CallsOffer _ (record (client opened link stopped).state { written = written }) = subst (λ (e : EndState ClientState). CallsOffer e.state.next_xid e.state) same now in
+    left_are opened link h run xid
+    (λ there. buffers_are opened link h stopped xid (memory_by opened link h stopped run out) (record { before = then.before; calls = then.calls }) out.keeps.waits there ∙ revoked_same opened link stopped run xid written received same)
+    (λ a. answered a (subst (λ (e : EndState ClientState). AreReceived (length (bytes_received link Initiator stopped)) e.state.accesses_received) (sym same) out.keeps.accesses))
 
 pub revoked_out_lem : RevokedOut
 revoked_out_lem opened link h stopped run xid out =
-    left_are opened link h run xid (outstanding_out opened link h stopped run xid out)
-    (λ a. answered_are [] opened link h run xid _ a out.answers (subst (λ (e : EndState ClientState). AreReceived (length (bytes_received link Initiator stopped)) e.state.accesses_received) (sym out.same) out.out.keeps.accesses))
+    stopped_are opened link h stopped run xid out.written out.out out.received out.same (offers_after [] opened link h run out.answers) (λ a accesses. answered_are [] opened link h run xid _ a out.answers accesses)
+
+-- also of a link that was reopened, if the call is one of its own
+pub buffers_stopped : BuffersStopped
+buffers_stopped is_own earlier opened link h stopped run s xid own =
+    stopped_are opened link h stopped run xid s.written s.out s.received s.same (offers_after (map as_accepted opened.resumed) opened link (own_side is_own h) run s.answers)
+    (λ a accesses there. answered_are (map as_accepted opened.resumed) opened link (own_side is_own h) run xid _ a s.answers accesses (own_found is_own xid h.state.answered own ∙ there))

@@ -20,13 +20,15 @@ use Rattle.nr_reduce.specs.History.{bytes_received}
 use Rattle.nr_reduce.specs.Run.{client, placed_bytes, grants_of}
 use Rattle.nr_reduce.specs.Credits.{credits_granted}
 use Rattle.nr_reduce.specs.KeptClient.{bytes_under, HoldsFor}
+use Rattle.nr_reduce.specs.Standing.{ClientRunsOut}
+use Rattle.nr_reduce.specs.SubmitAnswer.{calls_counted}
 use Rattle.nr_reduce.proofs.Numbered.{numbered_length}
-use Rattle.nr_requester.specs.RequesterState.{StoredCall, RequesterFeeding, RequesterSide, feeding_of, stags_of, kept_call}
+use Rattle.nr_requester.specs.RequesterState.{StoredCall, RequesterFeeding, RequesterSide, feeding_of, stags_of, kept_call, kept_client, queue_of}
 use Rattle.nr_requester.specs.Standing.{KeepsClient}
 use Rattle.nr_requester.specs.AfterPiece.{requester_ended, after_frame, after_piece}
 use Rattle.nr_requester.specs.Laws.{HoldsPlaced, MemoryAsClient, MemoryOut, AgreesOut, CountsOut, RefusesOut, PieceStaysOut}
 use Rattle.nr_requester.proofs.Answered.{ended_answer}
-use Rattle.nr_requester.proofs.AllMarks.{others_stay_out}
+use Rattle.nr_requester.proofs.AllMarks.{IsAsStopped, others_stay_out}
 
 -- ---- What its memory holds
 
@@ -47,23 +49,34 @@ memory_kept opened link h run s = stored_hold opened link run h.state.side.memor
 pub memory_as_client : MemoryAsClient
 memory_as_client opened link h run s = memory_kept opened link h run s.keeps
 
-pub memory_out_lem : MemoryOut
-memory_out_lem opened link h stopped run out = stored_hold opened link stopped h.state.side.memory _ h.state.sent h.state.outstanding refl out.out.keeps.holds
+-- ---- Of one that ran out of memory, by its client
 
--- ---- Of one that ran out of memory
+module _ (opened : LinkParameters) (link : ℕ) (h : RequesterSide) (stopped run : List Mark) (out : ClientRunsOut opened link (kept_client h.state) (queue_of h.state) stopped run) where
+  pub memory_by : HoldsPlaced opened link h stopped
+  memory_by = stored_hold opened link stopped h.state.side.memory _ h.state.sent h.state.outstanding refl out.keeps.holds
+
+  pub counts_by : (length h.state.outstanding ≡ calls_counted (client opened link stopped).state) × (h.state.grant ≡ credits_granted opened link stopped)
+  unfolding credits_granted
+  counts_by = (out.keeps.outstanding ∙ numbered_length (client opened link stopped).state, out.keeps.grant)
+
+  pub agrees_by : (written : ℕ) → IsAsStopped opened link stopped run written → (h.state.side.agreed.up ≡ (client opened link run).state.up_max)
+      × ((h.state.side.agreed.down ≡ (client opened link run).state.down_max) × (h.state.side.agreed.invalidates ≡ (client opened link run).state.invalidates))
+  agrees_by written same = (
+    out.keeps.up ∙ sym (ap (λ (e : EndState ClientState). e.state.up_max) same),
+    (
+      out.keeps.down ∙ sym (ap (λ (e : EndState ClientState). e.state.down_max) same),
+      out.keeps.invalidates ∙ sym (ap (λ (e : EndState ClientState). e.state.invalidates) same),
+    ),
+  )
+
+pub memory_out_lem : MemoryOut
+memory_out_lem opened link h stopped run out = memory_by opened link h stopped run out.out
 
 pub counts_out_lem : CountsOut
-unfolding credits_granted
-counts_out_lem opened link h stopped run out = (out.out.keeps.outstanding ∙ numbered_length (client opened link stopped).state, out.out.keeps.grant)
+counts_out_lem opened link h stopped run out = counts_by opened link h stopped run out.out
 
 pub agrees_out_lem : AgreesOut
-agrees_out_lem opened link h stopped run out = (
-  out.out.keeps.up ∙ sym (ap (λ (e : EndState ClientState). e.state.up_max) out.same),
-  (
-    out.out.keeps.down ∙ sym (ap (λ (e : EndState ClientState). e.state.down_max) out.same),
-    out.out.keeps.invalidates ∙ sym (ap (λ (e : EndState ClientState). e.state.invalidates) out.same),
-  ),
-)
+agrees_out_lem opened link h stopped run out = agrees_by opened link h stopped run out.out out.written out.same
 
 pub refuses_out : RefusesOut
 refuses_out opened link h stopped run call form out = (
@@ -85,6 +98,9 @@ fed_out h piece e = by (split h.awaited (h.rest ++ piece)).frames
         ap (λ (b : Bool). cond b (feeding_in requester_ended after_frame h.awaited [] h.state) (feeding_after_frames requester_ended after_frame frames s.rest Fpdu (after_frame h.state h.awaited f))) e
         ∙ ap (λ (b : Bool). record { awaited = h.awaited; rest = cond b [] []; state = h.state }) e
 
+pub stays_by : (opened : LinkParameters) (link : ℕ) (h : RequesterSide) (stopped run : List Mark) (piece : List ℕ) → ClientRunsOut opened link (kept_client h.state) (queue_of h.state) stopped run → h.rest ≡ [] → after_piece (feeding_of h) piece ≡ feeding_of h
+stays_by opened link h stopped run piece out none =
+    fed_out (feeding_of h) piece (ap (λ (x : Option End). is_some x) out.ended) ∙ (λ i. record { awaited = h.awaited; rest = sym none i; state = h.state })
+
 pub piece_stays_out_lem : PieceStaysOut
-piece_stays_out_lem opened link h stopped run piece out none =
-    fed_out (feeding_of h) piece (ap (λ (x : Option End). is_some x) out.out.ended) ∙ (λ i. record { awaited = h.awaited; rest = sym none i; state = h.state })
+piece_stays_out_lem opened link h stopped run piece out none = stays_by opened link h stopped run piece out.out none

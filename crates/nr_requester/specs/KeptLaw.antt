@@ -13,6 +13,7 @@ use Rattle.nr_reduce.specs.Asked.{AskedSoFar, IsAll, IsAwaitedOrWaits}
 use Rattle.nr_reduce.specs.Credits.{KeepsGrant}
 use Rattle.nr_reduce.specs.History.{bytes_sent}
 use Rattle.nr_reduce.specs.Opening.{IsOpened}
+use Rattle.nr_reduce.specs.Resending.{resends_after}
 use Rattle.nr_reduce.specs.Run.{output_due}
 use Rattle.nr_requester.specs.declared.answer.AnsweredCall.{AnsweredCall}
 use Rattle.nr_requester.specs.RequesterState.{RequesterSide, queue_of}
@@ -20,6 +21,7 @@ use Rattle.nr_requester.specs.Answers.{answer_of}
 use Rattle.nr_requester.specs.Buffers.{bytes_of_buffers}
 use Rattle.nr_requester.specs.OpenCalls.{buffers_of, found_answer, open_call, remaining_call}
 use Rattle.nr_requester.specs.ReopenedLinks.{RequesterKeeps}
+use Rattle.nr_requester.specs.Reopening.{HasNoMark}
 
 -- a mark more keeps both
 abbrev pub KeepsBoth : LinkParameters → ℕ → List Mark → Mark → Type 0
@@ -29,7 +31,16 @@ KeepsBoth opened link run mark = AskedSoFar opened link run → KeepsGrant opene
 abbrev pub OfEachRun : (((ℕ → Bool) → LinkParameters → ℕ → RequesterSide → List Mark → Type 0)) → Type 0
 OfEachRun P = (is_own : ℕ → Bool) (earlier : ℕ) (opened : LinkParameters) (link : ℕ) (h : RequesterSide) (run : List Mark) → RequesterKeeps is_own earlier opened link h run → P is_own opened link h run
 
--- An accepted call,
+-- No marks of a link keep its law.
+abbrev pub NoMarksLaw : Type 0
+NoMarksLaw = (opened : LinkParameters) (link : ℕ) (run : List Mark) → HasNoMark link run → AskedSoFar opened link run × KeepsGrant opened link run
+
+-- A piece of the server's stream keeps it, with the Submits of all calls that can be sent again then,
+abbrev pub PieceLaw : Type 0
+PieceLaw = (opened : LinkParameters) (link : ℕ) (run : List Mark) (piece : List ℕ) → IsOpened opened → AskedSoFar opened link run → KeepsGrant opened link run →
+    (let all : List Mark = run ++ marks.Fed link Initiator piece ∷ resends_after opened link (run ++ marks.Fed link Initiator piece ∷ []) in AskedSoFar opened link all × KeepsGrant opened link all)
+
+-- so does an accepted call,
 abbrev pub SubmitLaw : Type 0
 SubmitLaw = OfEachRun (λ is_own opened link h run. (call : Call) (form : Form) (xid : ℕ) → answer_of h.state call form ≡ submissions.Accepted xid → IsOpened opened → CanWriteCred call.cred →
     KeepsBoth opened link run (marks.Submit link call form (submissions.Accepted xid)))

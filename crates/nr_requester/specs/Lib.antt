@@ -26,3 +26,4 @@ pub mod private
 pub mod KeptOn
 pub mod KeptLaw
 pub mod EarlierLinks
+pub mod StoppedLinks

@@ -10,9 +10,10 @@ use Rattle.nr_requester.specs.AfterCalls.{after_revoke}
 use Rattle.nr_requester.specs.OpenCalls.{remaining_call, buffers_of}
 use Rattle.nr_requester.specs.Buffers.{bytes_of_buffers}
 use Rattle.nr_requester.specs.Standing.{StandsOn, StopsRevoked}
+use Rattle.nr_requester.specs.ReopenedLinks.{KeepsOn, StopsOnRevoke}
 
 -- The call with the least xid goes back, with its buffers. It isn't left then, and all others are as they were. This is one mark more, as if its
--- memory were revoked, also of a requester that ran out of memory.
+-- memory were revoked, also of a requester that ran out of memory, and on a link that was reopened.
 pub record GoesBack (before : RequesterSide) (call : Call) (buffers : Buffers) (after : RequesterSide) : Type 0 where
   pub xid : ℕ
   pub own : remaining_call xid before.state ≡ Some call
@@ -23,6 +24,8 @@ pub record GoesBack (before : RequesterSide) (call : Call) (buffers : Buffers) (
   pub number : xid < before.state.next_xid
   pub stands : StandsOn before (λ link. marks.Revoke link xid (bytes_of_buffers buffers)) after
   pub out : StopsRevoked before xid (bytes_of_buffers buffers) after
+  pub keeps : KeepsOn before (λ link. marks.Revoke link xid (bytes_of_buffers buffers)) after
+  pub stops : StopsOnRevoke before xid (bytes_of_buffers buffers) after
   pub others : (x : ℕ) → x ≢ xid → remaining_call x after.state ≡ remaining_call x before.state
 
 -- ---- For the code

@@ -1,7 +1,8 @@
 -- A requester leaves its link and begins the next one: its calls go on, with their buffers under new STags, and their Sends wait to be sent again.
-use Rattle.std.specs.Prelude.{◌≡◌, ◌≢◌, ℕ, ◌+◌, ◌-◌, nat_lt, Bool, if◌then◌else◌, List, [], ◌∷◌, ◌++◌, length, map, Option, None, Some, is_some}
+use Rattle.std.specs.Prelude.{◌≡◌, ◌≢◌, ℕ, ◌+◌, ◌-◌, ◌≤◌, nat_lt, Bool, if◌then◌else◌, List, [], ◌∷◌, ◌++◌, length, map, Option, None, Some, is_some}
 use Rattle.std.specs.List.{AllByRecursion}
 use Rattle.nr_regions.specs.RegisteredMemory.{RegisteredMemory, initial_memory}
+use Rattle.nr_link.specs.Agreement.{IsSendLimit}
 use Rattle.nr_link.specs.declared.end.End.{End}
 use Rattle.nr_wire.specs.declared.hello.Side.TheVariants.{Initiator, Responder}
 use Rattle.nr_wire.specs.declared.stream.Awaited.TheVariants.{Hello as HelloFrom}
@@ -18,11 +19,11 @@ use Rattle.nr_reduce.specs.declared.outline.Plan.{Plan}
 use Rattle.nr_reduce.specs.Limits.{numbers_end}
 use Rattle.nr_reduce.specs.Plans.{buffers, call_message, regions_needed}
 use Rattle.nr_reduce.specs.PlansByLists.{plan_by_lists}
-use Rattle.nr_reduce.specs.ClientState.{WaitingCall, call_payload, waiting_from}
+use Rattle.nr_reduce.specs.ClientState.{WaitingCall, call_payload, stag_after, waiting_from}
 use Rattle.nr_reduce.specs.KeptClient.{registered_all, resumed_kept, resumed_memory}
 use Rattle.nr_reduce.specs.Reopening.{reopened}
 use Rattle.nr_reduce.specs.Asked.{AskedSoFar}
-use Rattle.nr_reduce.specs.Opening.{IsOpened}
+use Rattle.nr_reduce.specs.Opening.{IsOpened, lengths_before}
 use Rattle.nr_requester.specs.RequesterState.{StoredCall, RequesterState, RequesterSide, awaited_call, kept_call}
 use Rattle.nr_requester.specs.AfterCalls.{stored_call}
 use Rattle.nr_requester.specs.ReopenedLinks.{RequesterKeeps, KeepsEarlier, next_own, earlier_own}
@@ -92,6 +93,7 @@ pub record OpensNext (next : LinkParameters) (r : RequesterState) (a : CallsAgai
   pub wished : r.wished ≡ next.wished
   pub terms : r.side.terms ≡ next.client
   pub agreed : last_agreed r.side ≡ next.agreed
+  pub stags : stag_after next.first_stag next.resumed ≡ r.side.memory.next + stags_for_calls r.outstanding
 
 -- A requester that stands for the marks of its link, which has kept the client's law and hasn't ended, keeps what its next link is opened with.
 abbrev pub CallsGoOn : Type 0
@@ -134,11 +136,23 @@ link_of (marks.Told link what) = link
 abbrev pub HasNoMark : (link : ℕ) → List Mark → Type 0
 HasNoMark link run = AllByRecursion (λ mark. link_of mark ≢ link) run
 
--- So a requester that leaves its link, if the next one can be opened, stands for no marks of that, and keeps the answers of the one that it left.
+-- So a requester that leaves its link stands for no marks of the next one, and keeps the answers of the one that it left.
 abbrev pub ReopenStands : RequesterSide → RequesterSide → Type 0
 ReopenStands before after = (is_own : ℕ → Bool) (earlier : ℕ) (opened : LinkParameters) (link next : ℕ) (run : List Mark) → IsOpened opened → AskedSoFar opened link run →
-    RequesterKeeps is_own earlier opened link before run → IsOpened (reopened opened link run) → HasNoMark next run →
+    RequesterKeeps is_own earlier opened link before run → HasNoMark next run →
     RequesterKeeps (next_own before.state) before.marks (reopened opened link run) next after run × KeepsEarlier (earlier_own is_own before.state) opened link after run
 
 abbrev pub NextBegins : Type 0
 NextBegins = (h : RequesterSide) (staging : List ℕ) → h.state.side.ended ≡ None → ReopenStands h (after_reopen h staging)
+
+-- The lengths of Sends that an earlier hello agreed on, if there was one, are from one unit to the most units.
+abbrev pub AgreedInRange : LinkParameters → Type 0
+AgreedInRange opened = IsSendLimit (lengths_before opened.agreed).up × IsSendLimit (lengths_before opened.agreed).down
+
+-- If the link that it leaves was opened in range, and its client kept the law there, so is the next one.
+abbrev pub NextIsOpened : RequesterSide → Type 0
+NextIsOpened before = (is_own : ℕ → Bool) (earlier : ℕ) (opened : LinkParameters) (link : ℕ) (run : List Mark) → IsOpened opened → AgreedInRange opened → AskedSoFar opened link run →
+    RequesterKeeps is_own earlier opened link before run → IsOpened (reopened opened link run) × AgreedInRange (reopened opened link run)
+
+abbrev pub NextLinksAreOpened : Type 0
+NextLinksAreOpened = (h : RequesterSide) → reopen_refusal h.state ≡ None → h.state.next_xid ≤ numbers_end → NextIsOpened h

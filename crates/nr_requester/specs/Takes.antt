@@ -9,7 +9,7 @@ use Rattle.nr_requester.specs.AfterCalls.{after_revoke, after_forget}
 use Rattle.nr_requester.specs.Buffers.{bytes_of_buffers}
 use Rattle.nr_requester.specs.OpenCalls.{found_answer, open_call, buffers_of, KeepsTickets, ClosesTicket}
 use Rattle.nr_requester.specs.Standing.{StandsOn, StaysOut, StopsRevoked}
-use Rattle.nr_requester.specs.ReopenedLinks.{KeepsOn}
+use Rattle.nr_requester.specs.ReopenedLinks.{KeepsOn, StopsOn, StopsOnRevoke}
 
 -- Done if and only if a message brought an outcome: the call, its buffers and the outcome go to the owner. Else Failed if and only if the link has
 -- ended: the call goes back with its buffers, and its regions are released. Else NotYet, and nothing changes.
@@ -38,6 +38,12 @@ abbrev pub TakeKeeps : RequesterSide → ℕ → Take → RequesterSide → Type
 TakeKeeps before xid (takes.Done done) after = KeepsOn before (λ link. marks.Done link xid done.outcome) after
 TakeKeeps before xid (takes.NotYet ticket) after = Unit {0}
 TakeKeeps before xid (takes.Failed call buffers end) after = KeepsOn before (λ link. marks.Lost link xid) after
+
+-- And of one that ran out of memory on such a link: its client didn't end, so a call that comes back is revoked.
+abbrev pub TakeStops : RequesterSide → ℕ → Take → RequesterSide → Type 0
+TakeStops before xid (takes.Done done) after = StopsOn before (λ link. marks.Done link xid done.outcome) after
+TakeStops before xid (takes.NotYet ticket) after = Unit {0}
+TakeStops before xid (takes.Failed call buffers end) after = StopsOnRevoke before xid (bytes_of_buffers buffers) after
 
 -- a call that is lost is a mark
 abbrev pub LostIsAMark : Type 0

@@ -10,7 +10,7 @@ ghost use Rattle.nr_requester.specs.HeldBytes.{receive_max};
 ghost use Rattle.nr_requester.specs.HeldClaims.{OffersOwn};
 ghost use Rattle.nr_requester.specs.OpenCalls.{KeepsTickets};
 ghost use Rattle.nr_requester.specs.RequesterState.{awaited_call};
-ghost use Rattle.nr_requester.specs.Reopening.{stags_for_call, stags_for_calls, reopen_refusal, after_reopen, ReopenStands};
+ghost use Rattle.nr_requester.specs.Reopening.{stags_for_call, stags_for_calls, reopen_refusal, after_reopen, NextIsOpened, ReopenStands};
 ghost use Rattle.nr_requester.specs.Views.{stored_view};
 ghost use Rattle.nr_requester.specs.private.Resuming.{AreLeft, AreResuming, IsMadeAgain, IsNextLink, RiseBy, awaited_calls, with_calls};
 
@@ -270,6 +270,7 @@ impl Requester {
         ensures refused { IfErr result (λ e. e ≢ refusals.Memory → reopen_refusal self.old.state ≡ Some e) }
         ensures err { OnErr result (self.new ≡ self.old) }
         ensures stands { OnOk result (ReopenStands self.old self.new) }
+        ensures opens { OnOk result (NextIsOpened self.old) }
         ensures tickets { OnOk result (KeepsTickets self.old.state self.new.state) }
         ensures fed { OnOk result (fed_bytes self.new ≡ 0) }
     {

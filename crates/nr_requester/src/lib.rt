@@ -42,8 +42,10 @@ mod window;
 pub use answer::{AnsweredCall, Buffers};
 pub use dismantling::Remains;
 pub use laws::{
-    calls_go_on, first_links_are_kept, releases_are_counted, requesters_keep_their_law,
-    requesters_stand_for_marks,
+    calls_go_on, earlier_links_are_kept, earlier_links_keep_their_law, first_links_are_kept,
+    releases_are_counted, reopened_links_go_on, reopened_links_keep_their_law,
+    requesters_keep_their_law, requesters_stand_for_marks, stopped_requesters_go_on,
+    stopped_requesters_keep_their_law,
 };
 pub use requester::Requester;
 pub use taking::{Done, Take};

@@ -24,6 +24,7 @@ ghost use Rattle.nr_requester.specs.Judged.{outcome_by, LiesWithin};
 ghost use Rattle.nr_requester.specs.Fed.{answer_with, CallsSound, IsReady, StopsDead, TakesMessage, TakesEvent, IsStep, TakesFrames, RequesterRanOutAt, fed_bytes, taken_by, late_marks};
 ghost use Rattle.nr_requester.specs.HeldBytes.{NothingOutside, IsBounded};
 ghost use Rattle.nr_requester.specs.OpenCalls.{KeepsTickets};
+ghost use Rattle.nr_requester.specs.ReopenedLinks.{StopsAfter};
 ghost use Rattle.nr_requester.specs.Resends.{after_feed, KeepsPiece};
 ghost use Rattle.nr_requester.specs.Standing.{StandsOn, RequesterRepresents, RequesterRunsOut};
 ghost use Rattle.nr_requester.specs.Views.{stored_view};
@@ -342,8 +343,9 @@ impl Requester {
         ensures state { result ≢ Err ends.Memory → self.new ≡ after_fed self.old piece.now self.new.staging }
         ensures stands { result ≢ Err ends.Memory → StandsOn self.old (λ link. marks.Fed link Initiator piece.now) self.new }
         ensures memory { result ≡ Err ends.Memory → self.old.state.side.ended ≡ None → (n : ℕ) × (RequesterRanOutAt (feeding_of self.old) piece.now n (feeding_of self.new)
-            × ((opened : LinkParameters) (link : ℕ) (run : List Mark) → RequesterRepresents opened link self.old run →
-            RequesterRunsOut opened link self.new (run ++ marks.Fed link Initiator (take n piece.now) ∷ []) (run ++ marks.Fed link Initiator (take n piece.now) ∷ []))) }
+            × (((opened : LinkParameters) (link : ℕ) (run : List Mark) → RequesterRepresents opened link self.old run →
+            RequesterRunsOut opened link self.new (run ++ marks.Fed link Initiator (take n piece.now) ∷ []) (run ++ marks.Fed link Initiator (take n piece.now) ∷ []))
+            × StopsAfter self.old (take n piece.now) self.new)) }
         ensures kept { is_some self.old.state.side.ended ≡ true → (feeding_of self.new ≡ feeding_of self.old) × (self.new.staging ≡ self.old.staging) }
         ensures out { self.old.state.side.ended ≡ Some ends.Memory → self.new ≡ self.old }
         ensures staging { KeepsStaging self.old self.new piece.now }
@@ -373,8 +375,9 @@ impl Requester {
         ensures stands { result ≢ Err ends.Memory → StandsOn self.old (λ link. marks.Fed link Initiator piece.now) self.new }
         ensures keeps { result ≢ Err ends.Memory → KeepsPiece self.old piece.now self.new }
         ensures memory { result ≡ Err ends.Memory → self.old.state.side.ended ≡ None → (n : ℕ) × (RequesterRanOutAt (feeding_of self.old) piece.now n (feeding_of self.new)
-            × ((opened : LinkParameters) (link : ℕ) (run : List Mark) → RequesterRepresents opened link self.old run →
-            RequesterRunsOut opened link self.new (run ++ marks.Fed link Initiator (take n piece.now) ∷ []) (run ++ marks.Fed link Initiator (take n piece.now) ∷ []))) }
+            × (((opened : LinkParameters) (link : ℕ) (run : List Mark) → RequesterRepresents opened link self.old run →
+            RequesterRunsOut opened link self.new (run ++ marks.Fed link Initiator (take n piece.now) ∷ []) (run ++ marks.Fed link Initiator (take n piece.now) ∷ []))
+            × StopsAfter self.old (take n piece.now) self.new)) }
         ensures kept { is_some self.old.state.side.ended ≡ true → (feeding_of self.new ≡ feeding_of self.old) × (self.new.staging ≡ self.old.staging) }
         ensures out { self.old.state.side.ended ≡ Some ends.Memory → self.new ≡ self.old }
         ensures staging { KeepsStaging self.old self.new piece.now }

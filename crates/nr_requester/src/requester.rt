@@ -1,6 +1,6 @@
 //! The client end of a link: a value, how it is opened and drained.
 
-ghost use Rattle.std.specs.Prelude.{◌≡◌, ℕ, ◌^◌, ◌<◌, ◌≤◌, true, is_some, [], length, take, List, None, IfOk, OnOk, MatchResult};
+ghost use Rattle.std.specs.Prelude.{◌≡◌, ℕ, ◌^◌, ◌<◌, ◌≤◌, Bool, true, is_some, [], length, take, List, None, IfOk, OnOk, MatchResult};
 ghost use Rattle.std.specs.Io.KnownBytes.{Appends};
 ghost use Rattle.nr_outside.specs.Faults.{Rises};
 ghost use Rattle.nr_wire.specs.declared.hello.Side.TheVariants.{Initiator};
@@ -18,7 +18,7 @@ ghost use Rattle.nr_reduce.specs.Run.{client};
 ghost use Rattle.nr_requester.specs.RequesterState.{queue_of};
 ghost use Rattle.nr_requester.specs.Standing.{RequesterRepresents, StandsOn, StaysOut};
 ghost use Rattle.nr_requester.specs.Fed.{fed_bytes};
-ghost use Rattle.nr_requester.specs.ReopenedLinks.{KeepsOn};
+ghost use Rattle.nr_requester.specs.ReopenedLinks.{KeepsOn, RequesterKeeps, StopsOn};
 ghost use Rattle.nr_requester.specs.KeptLists.{ListsFit};
 ghost use Rattle.nr_requester.specs.OpenCalls.{found_call, found_answer, IsFresh, KeepsTickets};
 ghost use Rattle.nr_endpoint.specs.LinkState.{has_ended};
@@ -238,6 +238,8 @@ impl Requester {
         ensures down { result.1 ≡ self.now.state.side.agreed.down }
         ensures stands { (opened : LinkParameters) (link : ℕ) (run : List Mark) → RequesterRepresents opened link self.now run →
             (result.0 ≡ (client opened link run).state.up_max) × (result.1 ≡ (client opened link run).state.down_max) }
+        ensures keeps { (is_own : ℕ → Bool) (earlier : ℕ) (opened : LinkParameters) (link : ℕ) (run : List Mark) → RequesterKeeps is_own earlier opened link self.now run →
+            (result.0 ≡ (client opened link run).state.up_max) × (result.1 ≡ (client opened link run).state.down_max) }
     {
         self.endpoint.agreed()
     }
@@ -246,6 +248,8 @@ impl Requester {
     pub fn invalidates(&self) -> bool
         ensures agreed { result ≡ self.now.state.side.agreed.invalidates }
         ensures stands { (opened : LinkParameters) (link : ℕ) (run : List Mark) → RequesterRepresents opened link self.now run → result ≡ (client opened link run).state.invalidates }
+        ensures keeps { (is_own : ℕ → Bool) (earlier : ℕ) (opened : LinkParameters) (link : ℕ) (run : List Mark) → RequesterKeeps is_own earlier opened link self.now run →
+            result ≡ (client opened link run).state.invalidates }
     {
         self.endpoint.invalidates()
     }
@@ -318,7 +322,8 @@ impl Requester {
             × StandsOn self.old (λ link. marks.Wrote link Initiator (take n (queue_of self.old.state))) self.new
             × StaysOut self.old (λ link. marks.Wrote link Initiator (take n (queue_of self.old.state))) self.new
             × OnOk result (n ≡ length (queue_of self.old.state))
-            × KeepsOn self.old (λ link. marks.Wrote link Initiator (take n (queue_of self.old.state))) self.new }
+            × KeepsOn self.old (λ link. marks.Wrote link Initiator (take n (queue_of self.old.state))) self.new
+            × StopsOn self.old (λ link. marks.Wrote link Initiator (take n (queue_of self.old.state))) self.new }
         ensures tickets { KeepsTickets self.old.state self.new.state }
         ensures fed { fed_bytes self.new ≡ fed_bytes self.old }
         ensures counted { MatchResult result

@@ -14,7 +14,7 @@ ghost use Rattle.nr_requester.specs.HeldClaims.{all_claims};
 ghost use Rattle.nr_requester.specs.Fed.{fed_bytes};
 ghost use Rattle.nr_requester.specs.OpenCalls.{open_call, remaining_call, buffers_of, ClosesTicket};
 ghost use Rattle.nr_requester.specs.Standing.{StandsOn, StopsRevoked};
-ghost use Rattle.nr_requester.specs.ReopenedLinks.{KeepsOn};
+ghost use Rattle.nr_requester.specs.ReopenedLinks.{KeepsOn, StopsOnRevoke};
 ghost use Rattle.nr_requester.specs.Views.{given_up};
 
 use crate::answer::Buffers;
@@ -89,6 +89,7 @@ impl Requester {
         ensures stands { StandsOn self.old (λ link. marks.Revoke link ticket (bytes_of_buffers result.1)) self.new }
         ensures keeps { KeepsOn self.old (λ link. marks.Revoke link ticket (bytes_of_buffers result.1)) self.new }
         ensures out { StopsRevoked self.old ticket (bytes_of_buffers result.1) self.new }
+        ensures stops { StopsOnRevoke self.old ticket (bytes_of_buffers result.1) self.new }
         ensures tickets { ClosesTicket ticket self.old.state self.new.state }
         ensures fed { fed_bytes self.new ≡ fed_bytes self.old }
     {

@@ -7,8 +7,8 @@ ghost use Rattle.nr_requester.specs.HeldBytes.{AreDistinct};
 ghost use Rattle.nr_requester.specs.Fed.{fed_bytes};
 ghost use Rattle.nr_requester.specs.OpenCalls.{open_call, found_answer, ClosesTicket};
 ghost use Rattle.nr_requester.specs.Standing.{StandsOn, StaysOut};
-ghost use Rattle.nr_requester.specs.ReopenedLinks.{KeepsOn};
-ghost use Rattle.nr_requester.specs.Takes.{IsTaken, TakeCloses, TakeKeeps, TakeStands};
+ghost use Rattle.nr_requester.specs.ReopenedLinks.{KeepsOn, StopsOn};
+ghost use Rattle.nr_requester.specs.Takes.{IsTaken, TakeCloses, TakeKeeps, TakeStands, TakeStops};
 ghost use Rattle.nr_requester.specs.Views.{forgot};
 
 use crate::answer::{AnsweredCall, Buffers};
@@ -93,6 +93,7 @@ impl Requester {
         ensures taken { IsTaken self.old ticket result self.new }
         ensures stands { TakeStands self.old ticket result self.new }
         ensures keeps { TakeKeeps self.old ticket result self.new }
+        ensures stops { TakeStops self.old ticket result self.new }
         ensures tickets { TakeCloses self.old ticket result self.new }
         ensures fed { fed_bytes self.new ≡ fed_bytes self.old }
     {
@@ -141,6 +142,7 @@ impl Requester {
         ensures stands { StandsOn self.old (λ link. marks.Forget link ticket) self.new }
         ensures keeps { KeepsOn self.old (λ link. marks.Forget link ticket) self.new }
         ensures out { StaysOut self.old (λ link. marks.Forget link ticket) self.new }
+        ensures stops { StopsOn self.old (λ link. marks.Forget link ticket) self.new }
         ensures tickets { ClosesTicket ticket self.old.state self.new.state }
         ensures fed { fed_bytes self.new ≡ fed_bytes self.old }
     {

@@ -169,7 +169,6 @@ made_is seed clients calls some few short =
       few_client_units = omega arith;
       some_server_units = omega arith;
       few_server_units = omega arith;
-      unnumbered = refl;
       few_lines = (let count : length all ≤ 2 * calls + 1 = lines_len clients calls seed in omega (arith, count, short));
       follow_on = all_follow opening [] all made;
       creds = all_creds opening all made;

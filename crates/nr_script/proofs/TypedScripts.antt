@@ -124,18 +124,18 @@ follow_more opening before (l ∷ all) line e h =
 -- a script that is being read, but for its number of lines
 record IsRead (script : ScriptLines) : Type 0 where
   opening : IsOpening script.opening
-  unnumbered : script.opening.numbered ≡ false
   follow_on : FollowOn script.opening [] script.lines
   creds : AllByRecursion HasWritableCred script.lines
   typed : AllByRecursion IsTypedLine script.lines
 
 opened_if : (o : Option Opening) → If IsOpening o → If IsRead (opened_by o)
 opened_if None h = tt
-opened_if (Some o) h = by o.numbered refl
-  where
-    by : (b : Bool) → o.numbered ≡ b → If IsRead (cond b None (Some (record { opening = o; lines = [] })))
-    by true e = tt
-    by false e = record { opening = h; unnumbered = e; follow_on = tt; creds = tt; typed = tt }
+opened_if (Some o) h = record {
+  opening = h;
+  follow_on = tt;
+  creds = tt;
+  typed = tt;
+}
 
 followed_if : (script : ScriptLines) (line : Option Line) → IsRead script → If LineIsRight line → If IsRead (followed_by script line)
 followed_if script None is h = tt
@@ -144,7 +144,6 @@ followed_if script (Some line) is h = by (may_follow script.opening script.lines
     by : (b : Bool) → may_follow script.opening script.lines line ≡ b → If IsRead (cond b (Some (record script { lines = script.lines ++ line ∷ [] })) None)
     by true e = record {
       opening = is.opening;
-      unnumbered = is.unnumbered;
       follow_on = follow_more script.opening [] script.lines line e is.follow_on;
       creds = all_more HasWritableCred script.lines line is.creds h.1;
       typed = all_more IsTypedLine script.lines line is.typed h.0;
@@ -202,7 +201,7 @@ OkFew n (Err line) = Unit {0}
 
 opened_few : (n : ℕ) (o : Option Opening) → If (HasFew (n + 1)) (opened_by o)
 opened_few n None = tt
-opened_few n (Some opening) = if_if (HasFew (n + 1)) opening.numbered None (Some (record { opening = opening; lines = [] })) tt (omega arith)
+opened_few n (Some opening) = omega arith
 
 followed_few : (n : ℕ) (script : ScriptLines) (line : Option Line) → HasFew n script → If (HasFew (n + 1)) (followed_by script line)
 followed_few n script None h = tt
@@ -268,7 +267,6 @@ script_is text script short e =
       few_client_units = is.opening.few_client_units;
       some_server_units = is.opening.some_server_units;
       few_server_units = is.opening.few_server_units;
-      unnumbered = is.unnumbered;
       few_lines = omega (arith, few, count, within, short);
       follow_on = is.follow_on;
       creds = is.creds;

@@ -83,11 +83,10 @@ abbrev pub is_skipped : List ℕ → Bool
 is_skipped [] = true
 is_skipped (c ∷ others) = c == hash
 
--- What is read so far, with one line more: at first nothing, then the first line, then the others. A first line whose clients have numbers is
--- invalid as long as drills run none.
+-- what is read so far, with one line more: at first nothing, then the first line, then the others
 abbrev pub opened_by : Option Opening → Option ScriptLines
 opened_by None = None
-opened_by (Some opening) = if opening.numbered then None else Some (record { opening = opening; lines = [] })
+opened_by (Some opening) = Some (record { opening = opening; lines = [] })
 
 abbrev pub followed_by : ScriptLines → Option Line → Option ScriptLines
 followed_by script None = None
@@ -168,7 +167,6 @@ pub record IsScript (script : ScriptLines) : Type 0 where
   pub few_client_units : script.opening.client_units ≤ UNITS_MAX
   pub some_server_units : 1 ≤ script.opening.server_units
   pub few_server_units : script.opening.server_units ≤ UNITS_MAX
-  pub unnumbered : script.opening.numbered ≡ false
   pub few_lines : length script.lines ≤ lines_max
   pub follow_on : FollowOn script.opening [] script.lines
   pub creds : AllByRecursion HasWritableCred script.lines

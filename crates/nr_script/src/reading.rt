@@ -43,14 +43,7 @@ fn first_line(alloc: Global, line: &[u8]) -> Result<Option<Option<Opening>>, Mem
     }
     let words = words_of(alloc, line)?;
     match opening_in(words.as_slice()) {
-        Some(opening) => {
-            // Drills run no clients with numbers.
-            if opening.numbered {
-                Ok(None)
-            } else {
-                Ok(Some(Some(opening)))
-            }
-        }
+        Some(opening) => Ok(Some(Some(opening))),
         None => Ok(None),
     }
 }

@@ -37,8 +37,8 @@ pub fn statuses_have_causes()
     ensures lines { LinesAreRead }
 {}
 
-/// What a drill with `--log` printed is the text of the capture of its run, and is read back as that capture, if the status is 0:
-/// of a script that was read (`read`), and of one that was made from a seed (`made`).
+/// What a drill with `--log` printed is the text of the capture of its run if the status is 0: of a script that was read (`read`), and
+/// of one that was made from a seed (`made`). It is read back as that capture, if the clients of the script have no numbers.
 pub fn logs_are_read_back<O, C>()
     ensures read { ReadLogs O C }
     ensures made { MadeLogs O C }

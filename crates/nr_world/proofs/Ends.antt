@@ -1,16 +1,14 @@
 -- Both ends after a drain of nothing: a Wrote of no bytes is no mark.
 use Rattle.std.specs.Prelude.{◌&&◌}
-use Rattle.std.proofs.Common.{◌≡◌, ◌≢◌, ℕ, ◌≤◌, Bool, true, List, [], ◌∷◌, ◌++◌, length, take, drop, Option, None, Some, inl, inr, refl, ap, sym, subst, ◌∙◌, add-zero}
+use Rattle.std.proofs.Common.{◌≡◌, ◌≢◌, ℕ, ◌≤◌, Bool, true, List, [], ◌∷◌, ◌++◌, length, take, drop, Option, None, Some, inl, inr, refl, ap, sym, subst, ◌∙◌, add-zero, map}
 use Rattle.std.proofs.Math.Seq.{drop-nil, take-nil}
 use Rattle.nr_wire.specs.declared.hello.Side.TheVariants.{Initiator, Responder}
 use Rattle.nr_link.specs.declared.end.End.{End}
-use Rattle.nr_link.specs.declared.end.End.TheVariants as ends
 use Rattle.nr_link.specs.Input.{input_of}
 use Rattle.nr_endpoint.specs.SendQueue.{written}
 use Rattle.nr_reduce.specs.declared.mark.LinkParameters.{LinkParameters}
 use Rattle.nr_reduce.specs.declared.mark.Mark.{Mark}
-use Rattle.nr_reduce.specs.declared.mark.Mark.TheVariants as marks
-use Rattle.nr_reduce.specs.History.{bytes_sent, bytes_received}
+use Rattle.nr_reduce.specs.History.{bytes_sent, bytes_received, AcceptedCall}
 use Rattle.nr_reduce.specs.Events.{if_own}
 use Rattle.nr_reduce.specs.Events.RunEvent.{QueueWritten}
 use Rattle.nr_reduce.specs.EndRules.{EndState, end_state_after}
@@ -25,13 +23,18 @@ use Rattle.nr_reduce.proofs.Steps.{client_one, server_one}
 use Rattle.nr_requester.specs.RequesterState.{RequesterSide, kept_client, queue_of}
 use Rattle.nr_requester.specs.AfterCalls.{after_drain}
 use Rattle.nr_requester.specs.CountedMarks.{has_bytes, marks_if}
-use Rattle.nr_requester.specs.Standing.{RequesterRepresents, AnswersAfter, LinkKeeps}
+use Rattle.nr_requester.specs.Standing.{AnswersWith, LinkKeeps}
+use Rattle.nr_requester.specs.ReopenedLinks.{HasOwnCalls, own_side}
+use Rattle.nr_reduce.specs.Asked.{as_accepted}
+use Rattle.nr_world.specs.LinkStands.{StandsForClient, all_own}
 use Rattle.nr_requester.proofs.Queues.{written_writable}
 use Rattle.nr_responder.specs.Heard.{KeepsHeard}
 use Rattle.nr_responder.specs.ResponderState.{ResponderSide, queue, queued_bytes, may_write, end_of, after_drain as after_server_drain}
 use Rattle.nr_responder.specs.Standing.{RepresentsServer, ResponderRepresents}
 use Rattle.nr_responder.proofs.Drained.{split_queue}
 use Rattle.nr_drill.proofs.Carried.{same_received}
+use Rattle.nr_link.specs.declared.end.End.TheVariants as ends
+use Rattle.nr_reduce.specs.declared.mark.Mark.TheVariants as marks
 
 -- ---- The client
 
@@ -46,9 +49,13 @@ client_quiet o link run =
     ∙ ap (λ (b : Bool). end_state_after (client_rules o) (client o link run) (if_own (b && true) (QueueWritten 0 ∷ []))) (itself link)
     ∙ client_written o (client o link run).state (client o link run).ended
 
-same_answered : (o : LinkParameters) (link : ℕ) (run : List Mark) (h : RequesterSide) (n : ℕ) → AnswersAfter o link h run → AnswersAfter o link (after_drain n h) run
+same_answered : (o : LinkParameters) (link : ℕ) (run : List Mark) (h : RequesterSide) (n : ℕ) (calls : List AcceptedCall) → AnswersWith calls o link (own_side all_own h) run → AnswersWith calls o link (own_side all_own (after_drain n h)) run
 unfolding after_drain
-same_answered o link run h n k = record { outcomes = k.outcomes; hands_back = k.hands_back; holds = k.holds; calls = k.calls; awaited = k.awaited; submitted = k.submitted; to_come = k.to_come; regions = k.regions; tickets = k.tickets }
+same_answered o link run h n calls k = record { outcomes = k.outcomes; hands_back = k.hands_back; holds = k.holds; calls = k.calls; awaited = k.awaited; submitted = k.submitted; to_come = k.to_come; regions = k.regions; tickets = k.tickets }
+
+same_calls : (h : RequesterSide) (n : ℕ) → HasOwnCalls all_own h.state → HasOwnCalls all_own (after_drain n h).state
+unfolding after_drain
+same_calls h n k = record { outstanding = k.outstanding; to_come = k.to_come }
 
 drained_queue : (h : RequesterSide) (n : ℕ) → queue_of h.state ≡ [] → queue_of (after_drain n h).state ≡ []
 unfolding after_drain
@@ -59,30 +66,33 @@ unfolding after_drain
 drained_count h n none = ap (λ (bytes : List ℕ). marks_if (has_bytes (take n bytes)) h.marks) none ∙ ap (λ (bytes : List ℕ). marks_if (has_bytes bytes) h.marks) (take-nil n)
 
 -- a requester with nothing to write that was drained
-pub requester_quiet : (o : LinkParameters) (link : ℕ) (run : List Mark) (h : RequesterSide) (n : ℕ) → queue_of h.state ≡ [] → RequesterRepresents o link h run →
-    RequesterRepresents o link (after_drain n h) (run ++ marks.Wrote link Initiator [] ∷ []) → RequesterRepresents o link (after_drain n h) run
-requester_quiet o link run h n none before after =
+pub requester_quiet : (o : LinkParameters) (link : ℕ) (run : List Mark) (h : RequesterSide) (n : ℕ) → queue_of h.state ≡ [] → StandsForClient o link h run →
+    StandsForClient o link (after_drain n h) (run ++ marks.Wrote link Initiator [] ∷ []) → StandsForClient o link (after_drain n h) run
+requester_quiet o link run h n none (earlier, before) (marked, after) =
     let mark : Mark = marks.Wrote link Initiator [] in
     let same : client o link (run ++ mark ∷ []) ≡ client o link run = client_quiet o link run in
     let received : bytes_received link Initiator (run ++ mark ∷ []) ≡ bytes_received link Initiator run = same_received link Initiator run mark refl in
-    let k = after.keeps in
-    record {
-      keeps = record {
-        wished = k.wished;
-        resumes = k.resumes;
-        kept = record {
-          keeps = subst (λ (e : EndState ClientState). ClientKeeps o (kept_client (after_drain n h).state) e (length (bytes_received link Initiator run))) same
-              (subst (λ (bytes : List ℕ). ClientKeeps o (kept_client (after_drain n h).state) (client o link (run ++ mark ∷ [])) (length bytes)) received k.kept.keeps);
-          received = λ live. k.kept.received (ap (λ (e : EndState ClientState). e.ended) same ∙ live) ∙ ap (λ (bytes : List ℕ). input_of Responder bytes) received;
-          output = ap (λ (bytes : List ℕ). bytes_sent link Initiator run ++ bytes) (drained_queue h n none ∙ sym none) ∙ before.keeps.kept.output;
+    let k = after.keeps in (
+      earlier,
+      record {
+        keeps = record {
+          wished = k.wished;
+          resumes = k.resumes;
+          kept = record {
+            keeps = subst (λ (e : EndState ClientState). ClientKeeps o (kept_client (after_drain n h).state) e (length (bytes_received link Initiator run))) same
+                (subst (λ (bytes : List ℕ). ClientKeeps o (kept_client (after_drain n h).state) (client o link (run ++ mark ∷ [])) (length bytes)) received k.kept.keeps);
+            received = λ live. k.kept.received (ap (λ (e : EndState ClientState). e.ended) same ∙ live) ∙ ap (λ (bytes : List ℕ). input_of Responder bytes) received;
+            output = ap (λ (bytes : List ℕ). bytes_sent link Initiator run ++ bytes) (drained_queue h n none ∙ sym none) ∙ before.keeps.kept.output;
+          };
+          sent = k.sent;
+          side = λ live. subst (λ (e : EndState ClientState). LinkKeeps o (after_drain n h).state.side e.state) same (k.side live);
         };
-        sent = k.sent;
-        side = λ live. subst (λ (e : EndState ClientState). LinkKeeps o (after_drain n h).state.side e.state) same (k.side live);
-      };
-      first = after.first;
-      answers = same_answered o link run h n before.answers;
-      counted = drained_count h n none ∙ before.counted;
-    }
+        calls = same_calls h n before.calls;
+        answers = same_answered o link run h n (map as_accepted o.resumed) before.answers;
+        counted = drained_count h n none ∙ before.counted;
+        resent = before.resent;
+      },
+    )
 
 -- ---- The server
 

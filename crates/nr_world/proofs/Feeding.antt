@@ -2,12 +2,9 @@
 use Rattle.std.specs.Prelude.{◌&&◌, if◌then◌else◌}
 use Rattle.std.proofs.Common.{◌≡◌, ◌≢◌, ℕ, eqb, Bool, false, List, [], ◌∷◌, ◌++◌, take, drop, Some, inl, refl, ap, sym, subst, ◌∙◌}
 use Rattle.nr_wire.specs.declared.hello.Side.TheVariants.{Responder}
-use Rattle.nr_link.specs.declared.end.End.TheVariants as ends
 use Rattle.nr_reduce.specs.declared.mark.LinkParameters.{LinkParameters}
 use Rattle.nr_reduce.specs.declared.mark.Mark.{Mark}
-use Rattle.nr_reduce.specs.declared.mark.Mark.TheVariants as marks
 use Rattle.nr_reduce.proofs.Standing.{itself}
-use Rattle.nr_requester.proofs.AllMarks.{others_leave_it}
 use Rattle.nr_responder.specs.ResponderState.{ResponderSide, end_of}
 use Rattle.nr_responder.specs.Standing.{ResponderRepresents}
 use Rattle.nr_drill.specs.Drill.{Setting, Drill, Pipes, pipes_of, with_pipes, with_mark, after_feeding, after_feeding_up, after_up, settled}
@@ -18,6 +15,9 @@ use Rattle.nr_world.specs.Steps.{Goes, StandsAt}
 use Rattle.nr_world.proofs.Ends.{represents_of}
 use Rattle.nr_world.proofs.Standing.{with_ends, IsPlain, EndsStand, other_pipes, plain_mark, replied_one}
 use Rattle.nr_world.proofs.Writes.{not_own, one_more_mark}
+use Rattle.nr_world.proofs.Requesters.{others_leave}
+use Rattle.nr_link.specs.declared.end.End.TheVariants as ends
+use Rattle.nr_reduce.specs.declared.mark.Mark.TheVariants as marks
 
 -- ---- The server
 
@@ -27,7 +27,7 @@ up_nothing v n run none s link d at =
     subst (λ (xs : List ℕ). StandsAt s link (after_feeding link Responder xs (record { up = drop n (pipes_of link d).up; down = (pipes_of link d).down }) d) v run) (sym piece) at
 
 plain_fed_up : (link : ℕ) (bytes : List ℕ) → IsPlain link (marks.Fed link Responder bytes)
-plain_fed_up link bytes = record { drops = refl; answer = refl; kept = λ xid. refl; replied = λ before. tt }
+plain_fed_up link bytes = record { drops = refl; answer = λ s. refl; settle = λ s xid. refl; accepts = refl; kept = λ xid. refl; replied = λ before. tt }
 
 not_fed : (link : ℕ) (bytes : List ℕ) → (if (eqb link link && false) then bytes else []) ≡ []
 not_fed link bytes = ap (λ (b : Bool). if (b && false) then bytes else []) (itself link)
@@ -47,7 +47,7 @@ up_fed v server n (b ∷ bytes) pipes run run2 taken some takes ends_not is more
     let rest : Pipes = record { up = drop n (pipes_of link d).up; down = (pipes_of link d).down } in
     let all : take n (pipes_of link d).up ≡ piece = ap (λ (p : Pipes). take n p.up) (sym h.pipes) ∙ sym taken in
     let e : EndsStand s link (d.marks ++ mark ∷ []) v.client server = record {
-      client = others_leave_it o link v.client d.marks mark h.client (not_own link _) refl (not_fed link piece) (λ xid. refl);
+      client = others_leave o link v.client d.marks mark h.client (not_own link _) refl (not_fed link piece) (λ xid. refl);
       server = represents_of o link (d.marks ++ mark ∷ []) server ends_not (takes o link d.marks (inl h.server));
       client_memory = h.client_memory;
       server_memory = ends_not;

@@ -1,24 +1,21 @@
 -- A call that is submitted.
 use Rattle.std.specs.Prelude.{◌&&◌, is_some, IfOk}
 use Rattle.std.specs.List.{AllByRecursion}
-use Rattle.std.proofs.Common.{◌≡◌, ◌≢◌, ℕ, ◌+◌, ◌-◌, ◌≤◌, arith, leb, ltb, suc, Bool, true, false, cond, List, [], ◌∷◌, ◌++◌, length, filter, Option, None, Some, Result, Ok, Err, refl, ap, sym, subst, ◌∙◌, append-nil, length-append, ltb-true}
+use Rattle.std.proofs.Common.{◌≡◌, ◌≢◌, ℕ, ◌+◌, ◌≤◌, arith, ltb, Bool, true, false, List, [], ◌∷◌, ◌++◌, length, Option, None, Some, Result, Ok, Err, refl, ap, sym, subst, ◌∙◌, ltb-true, map, not, eqb, nat_lt, eqb-true, cond}
 use Rattle.nr_link.specs.declared.end.End.{End}
-use Rattle.nr_link.specs.declared.end.End.TheVariants as ends
+use Rattle.nr_world.proofs.SubmittedCalls.{tracks_refused, tracks_accepted}
 use Rattle.nr_wire.specs.declared.hello.Side.TheVariants.{Initiator}
 use Rattle.nr_reduce.specs.declared.call.Call.{Call}
 use Rattle.nr_reduce.specs.declared.call.Form.{Form}
 use Rattle.nr_reduce.specs.declared.call.Refused.{Refused}
-use Rattle.nr_reduce.specs.declared.call.Refused.TheVariants as refusals
 use Rattle.nr_reduce.specs.declared.call.Submission.{Submission}
-use Rattle.nr_reduce.specs.declared.call.Submission.TheVariants as submissions
 use Rattle.nr_reduce.specs.declared.mark.LinkParameters.{LinkParameters}
 use Rattle.nr_reduce.specs.declared.mark.Mark.{Mark}
-use Rattle.nr_reduce.specs.declared.mark.Mark.TheVariants as marks
 use Rattle.nr_reduce.specs.declared.outline.Plan.{Plan}
 use Rattle.nr_reduce.specs.Events.{if_own}
 use Rattle.nr_reduce.specs.Events.RunEvent.{CallSubmitted}
 use Rattle.nr_reduce.specs.EndRules.{EndState, end_state_after}
-use Rattle.nr_reduce.specs.ClientState.{ClientState}
+use Rattle.nr_reduce.specs.ClientState.{ClientState, WaitingCall}
 use Rattle.nr_reduce.specs.Client.{client_rules, client_end}
 use Rattle.nr_reduce.specs.History.{AcceptedCall, bytes_received}
 use Rattle.nr_reduce.specs.Plans.{TooLarge}
@@ -31,28 +28,30 @@ use Rattle.nr_requester.specs.RequesterState.{RequesterSide, RequesterState}
 use Rattle.nr_requester.specs.Answers.{plan_under, answer_by_plan, answer_if, answer_of}
 use Rattle.nr_requester.specs.KeptAnswers.{is_due}
 use Rattle.nr_requester.specs.OpenCalls.{open_call, OpensTicket}
-use Rattle.nr_requester.specs.Standing.{RequesterRepresents}
-use Rattle.nr_requester.proofs.Accepting.{answers_as_client}
-use Rattle.nr_requester.proofs.AllMarks.{others_leave_it}
-use Rattle.nr_requester.proofs.AnswerSteps.{due_same}
+use Rattle.nr_requester.specs.Standing.{waiting_message}
 use Rattle.nr_requester.proofs.MaySubmit.{answer_cases}
-use Rattle.nr_drill.specs.Drill.{Setting, Drill, with_mark, settled, after_submit, is_sent_again}
+use Rattle.nr_drill.specs.Drill.{Setting, Drill, with_mark, settled, after_submit}
 use Rattle.nr_drill.specs.InBytes.{RepliedInBytes}
 use Rattle.nr_drill.proofs.Carried.{same_dropped}
 use Rattle.nr_world.specs.DrillLinkState.{AwaitedLine, DrillLinkState}
-use Rattle.nr_world.specs.LinkStands.{answers_of, accepted_line, lines_from, awaited_lines, is_awaited, LinkStands}
+use Rattle.nr_world.specs.LinkStands.{is_awaited, LinkStands, StandsForClient, TracksCalls}
 use Rattle.nr_world.specs.OpenTickets.{LinesOpen, SubmitsLine, AnswersCall}
 use Rattle.nr_world.specs.Steps.{Goes, StandsAt}
-use Rattle.nr_world.proofs.CallLines.{filter_as, filter_parts, answers_one, own_one, own_submit}
 use Rattle.nr_world.proofs.Standing.{replied_one}
 use Rattle.nr_world.proofs.Writes.{server_stays, one_more_mark}
 use Rattle.nr_world.proofs.GivenLines.{open_others}
-use Rattle.nr_reduce.specs.declared.mark.ResumedCall.{ResumedCall}
-use Rattle.nr_reduce.proofs.XidsFollow.{next_xid_follows}
+use Rattle.nr_world.proofs.Requesters.{ended_as, others_leave, answers_as, asks_on}
+use Rattle.nr_laws.proofs.ResumedCalls.{next_least}
+use Rattle.nr_requester.specs.Sending.{has_credit}
+use Rattle.nr_world.proofs.EarlierCalls.{none_settled}
+use Rattle.nr_link.specs.declared.end.End.TheVariants as ends
+use Rattle.nr_reduce.specs.declared.call.Refused.TheVariants as refusals
+use Rattle.nr_reduce.specs.declared.call.Submission.TheVariants as submissions
+use Rattle.nr_reduce.specs.declared.mark.Mark.TheVariants as marks
 
--- the link after one call line more, with another client and these lines
-abbrev pub with_line : DrillLinkState → RequesterSide → List AwaitedLine → DrillLinkState
-with_line v client awaited = record { number = v.number; client = client; server = v.server; pipes = v.pipes; is_dropped = v.is_dropped; lines = v.lines + 1; awaited = awaited }
+-- the link after one call line more, with another client and these lines and calls
+abbrev pub with_line : DrillLinkState → RequesterSide → List AwaitedLine → List AcceptedCall → DrillLinkState
+with_line v client awaited calls = record v { client = client; lines = v.lines + 1; awaited = awaited; calls = calls }
 
 -- ---- Tickets
 
@@ -119,45 +118,40 @@ accepted_next : (r : RequesterState) (call : Call) (form : Form) (xid : ℕ) →
 unfolding answer_of
 accepted_next r call form xid e = next_if r call form r.side.ended xid e
 
--- ---- The lines
+-- a call is accepted only while no Send is held back
+credit_if : (b : Bool) (answer : Submission) (why : Refused) (xid : ℕ) → cond b answer (submissions.Refused why) ≡ submissions.Accepted xid → b ≡ true
+credit_if true answer why xid e = refl
+credit_if false answer why xid e = absurd (refused_apart why xid e)
 
-one_later : (start : ℕ) (answers : List Submission) (answer : Submission) →
-    lines_from (start + 1) answers ++ accepted_line (start + 1 + length answers) answer ≡ lines_from (start + 1) answers ++ accepted_line (start + suc (length answers)) answer
-one_later start answers answer = let same : start + 1 + length answers ≡ start + suc (length answers) = omega arith in ap (λ (n : ℕ). lines_from (start + 1) answers ++ accepted_line n answer) same
+credit_by_plan : (r : RequesterState) (p : Result Plan TooLarge) (xid : ℕ) → answer_by_plan r p ≡ submissions.Accepted xid → has_credit r ≡ true
+credit_by_plan r (Err large) xid e = absurd (refused_apart (refusals.TooLarge large.need large.room) xid e)
+credit_by_plan r (Ok plan) xid e = credit_if (has_credit r) _ (refusals.NoCredit (length r.outstanding) r.grant) xid e
 
-lines_more : (start : ℕ) (answers : List Submission) (answer : Submission) → lines_from start (answers ++ answer ∷ []) ≡ lines_from start answers ++ accepted_line (start + length answers) answer
-lines_more start [] answer = append-nil (accepted_line start answer) ∙ (let same : start ≡ start + 0 = omega arith in ap (λ (n : ℕ). accepted_line n answer) same)
-lines_more start (submissions.Accepted xid ∷ answers) answer =
-    ap (λ (rest : List AwaitedLine). record { xid = xid; index = start } ∷ rest) (lines_more (start + 1) answers answer ∙ one_later start answers answer)
-lines_more start (submissions.Refused why ∷ answers) answer = lines_more (start + 1) answers answer ∙ one_later start answers answer
-lines_more start (submissions.Dropped ∷ answers) answer = lines_more (start + 1) answers answer ∙ one_later start answers answer
+credit_unless_ended : (r : RequesterState) (call : Call) (form : Form) (ended : Option End) (xid : ℕ) → answer_if r call form ended ≡ submissions.Accepted xid → has_credit r ≡ true
+credit_unless_ended r call form (Some end) xid e = absurd (refused_apart (refusals.Ended end) xid e)
+credit_unless_ended r call form None xid e = credit_by_plan r (plan_under r call form) xid e
 
-own_answer : (link : ℕ) (run : List Mark) (call : Call) (form : Form) (answer : Submission) → answers_of link (run ++ marks.Submit link call form answer ∷ []) ≡ answers_of link run ++ answer ∷ []
-own_answer link run call form answer =
-    answers_one link run (marks.Submit link call form answer) ∙ ap (λ (b : Bool). answers_of link run ++ cond b (answer ∷ []) []) (itself link)
+none_of : (held : List (List ℕ)) (other : Bool) → (eqb (length held) 0 && other) ≡ true → held ≡ []
+none_of [] other e = refl
+none_of (bytes ∷ held) other e = by (eqb (length (bytes ∷ held)) 0) refl e
+  where
+    by : (b : Bool) → eqb (length (bytes ∷ held)) 0 ≡ b → (b && other) ≡ true → bytes ∷ held ≡ []
+    by true none e = absurd (let zero = eqb-true (length (bytes ∷ held)) 0 none in omega (arith, zero))
+    by false none e = absurd (false_true e)
 
--- those of them that are awaited
-awaited_more : (link : ℕ) (run : List Mark) (call : Call) (form : Form) (answer : Submission) →
-    awaited_lines link (run ++ marks.Submit link call form answer ∷ []) ≡ awaited_lines link run ++ filter (is_awaited link run) (accepted_line (length (answers_of link run)) answer)
-unfolding awaited_lines
-awaited_more link run call form answer =
-    let mark : Mark = marks.Submit link call form answer in
-    ap (λ (answers : List Submission). filter (is_awaited link (run ++ mark ∷ [])) (lines_from 0 answers)) (own_answer link run call form answer)
-    ∙ filter_as (is_awaited link (run ++ mark ∷ [])) (is_awaited link run) (lines_from 0 (answers_of link run ++ answer ∷ [])) (λ line. due_same link run mark (λ xid. refl) line.xid)
-    ∙ ap (λ (lines : List AwaitedLine). filter (is_awaited link run) lines) (lines_more 0 (answers_of link run) answer ∙ (let same : 0 + length (answers_of link run) ≡ length (answers_of link run) = omega arith in ap (λ (n : ℕ). lines_from 0 (answers_of link run) ++ accepted_line n answer) same))
-    ∙ filter_parts (is_awaited link run) (lines_from 0 (answers_of link run)) (accepted_line (length (answers_of link run)) answer)
+none_held : (r : RequesterState) (call : Call) (form : Form) (xid : ℕ) → answer_of r call form ≡ submissions.Accepted xid → r.side.send_queue.held ≡ []
+unfolding answer_of
+none_held r call form xid e = none_of r.side.send_queue.held (nat_lt (length r.outstanding) r.grant) (credit_unless_ended r call form r.side.ended xid e)
 
 -- ---- The link with the mark of the call
 
-marked : (s : Setting) (link : ℕ) (d : Drill) (v : DrillLinkState) (asks : RequesterSide) (left : List AwaitedLine) (call : Call) (form : Form) (answer : Submission) → LinkStands s link d v → is_sent_again s link answer ≡ false →
-    RequesterRepresents (s.opened link) link asks (d.marks ++ marks.Submit link call form answer ∷ []) → asks.state.side.ended ≢ Some ends.Memory →
-    left ≡ v.awaited ++ filter (is_awaited link d.marks) (accepted_line v.lines answer) → LinkStands s link (with_mark (marks.Submit link call form answer) d) (with_line v asks left)
-marked s link d v asks left call form answer h new represents lives is =
+marked : (s : Setting) (link : ℕ) (d : Drill) (v : DrillLinkState) (asks : RequesterSide) (left : List AwaitedLine) (calls : List AcceptedCall) (call : Call) (form : Form) (answer : Submission) → LinkStands s link d v →
+    StandsForClient (s.opened link) link asks (d.marks ++ marks.Submit link call form answer ∷ []) → asks.state.side.ended ≢ Some ends.Memory →
+    TracksCalls s link (d.marks ++ marks.Submit link call form answer ∷ []) (v.lines + 1) left calls v.waiting → LinkStands s link (with_mark (marks.Submit link call form answer) d) (with_line v asks left calls)
+marked s link d v asks left calls call form answer h represents lives tracks =
     let mark : Mark = marks.Submit link call form answer in
-    let count : v.lines + 1 ≡ length (answers_of link d.marks ++ answer ∷ []) = (let e = h.lines in omega (arith, e, length-append (answers_of link d.marks) (answer ∷ []))) in
     record {
       number = h.number;
-      firsts = h.firsts;
       first = h.first;
       room = h.room;
       pipes = h.pipes;
@@ -166,20 +160,20 @@ marked s link d v asks left call form answer h new represents lives is =
       server = server_stays (s.opened link) link d.marks v.server mark (submit_elsewhere link link call form answer) h.server_memory h.server;
       client_memory = lives;
       server_memory = h.server_memory;
-      lines = count ∙ ap length (sym (own_answer link d.marks call form answer));
-      awaited = is ∙ (λ i. h.awaited i ++ filter (is_awaited link d.marks) (accepted_line (h.lines i) answer)) ∙ sym (awaited_more link d.marks call form answer);
-      own = own_one s link d.marks mark (own_submit s link call form answer h.firsts new) h.own;
+      tracks = tracks;
     }
 
 -- on a dropped link
-pub dropped_call : (v h v2 : DrillLinkState) (call : Call) (form : Form) → v ≡ h → v.is_dropped ≡ true → v2 ≡ with_line v v.client v.awaited → AnswersCall call form submissions.Dropped h v2
+pub dropped_call : (v h v2 : DrillLinkState) (call : Call) (form : Form) → v ≡ h → v.is_dropped ≡ true → v2 ≡ with_line v v.client v.awaited v.calls → AnswersCall call form submissions.Dropped h v2
 unfolding submit_answer_after
 dropped_call v h v2 call form same gone is s link d stands =
-    let at : LinkStands s link d v = subst (λ (x : DrillLinkState). LinkStands s link d x) (sym same) stands in (
+    let at : LinkStands s link d v = subst (λ (x : DrillLinkState). LinkStands s link d x) (sym same) stands in
+    let mark : Mark = marks.Submit link call form submissions.Dropped in (
       ap (λ (b : Bool). unless_dropped b (submit_answer (client (s.opened link) link d.marks) call form)) (sym gone ∙ at.dropped),
-      subst (λ (x : DrillLinkState). LinkStands s link (with_mark (marks.Submit link call form submissions.Dropped) d) x) (sym is)
-          (marked s link d v v.client v.awaited call form submissions.Dropped at refl
-          (others_leave_it (s.opened link) link v.client d.marks (marks.Submit link call form submissions.Dropped) at.client refl refl refl (λ xid. refl)) at.client_memory (sym (append-nil v.awaited))),
+      subst (λ (x : DrillLinkState). LinkStands s link (with_mark mark d) x) (sym is)
+          (marked s link d v v.client v.awaited v.calls call form submissions.Dropped at
+          (others_leave (s.opened link) link v.client d.marks mark at.client refl refl refl (λ xid. refl)) at.client_memory
+          (tracks_refused s link d.marks call form submissions.Dropped v.lines v.awaited v.calls v.waiting refl refl (λ index. refl) at.tracks)),
     )
 
 -- by the client
@@ -187,7 +181,7 @@ client_answer : (s : Setting) (link : ℕ) (d : Drill) (v : DrillLinkState) (cal
     answer ≡ submit_answer_after (s.opened link) link d.marks call form
 unfolding submit_answer_after
 client_answer s link d v call form answer stands h is =
-    sym is ∙ answers_as_client (s.opened link) link v.client d.marks call form h.client
+    sym is ∙ answers_as (s.opened link) link v.client d.marks call form h.client
     ∙ ap (λ (b : Bool). unless_dropped b (submit_answer (client (s.opened link) link d.marks) call form)) (sym stands ∙ h.dropped)
 
 lives_on : (o : LinkParameters) (k : ClientState) (ended : Option End) (place : ℕ) (a : AcceptedCall) → ended ≡ None → (end_state_after (client_rules o) (record { state = k; ended = ended }) (CallSubmitted place a ∷ [])).ended ≡ None
@@ -195,7 +189,7 @@ unfolding client_end
 lives_on o k None place a none = refl
 lives_on o k (Some end) place a none = absurd cc
 
-accepted_lives : (o : LinkParameters) (link : ℕ) (run : List Mark) (call : Call) (form : Form) (xid : ℕ) → (client o link run).ended ≡ None → (client o link (run ++ marks.Submit link call form (submissions.Accepted xid) ∷ [])).ended ≡ None
+pub accepted_lives : (o : LinkParameters) (link : ℕ) (run : List Mark) (call : Call) (form : Form) (xid : ℕ) → (client o link run).ended ≡ None → (client o link (run ++ marks.Submit link call form (submissions.Accepted xid) ∷ [])).ended ≡ None
 accepted_lives o link run call form xid none =
     let a : AcceptedCall = record { xid = xid; call = call; form = form } in
     let place : ℕ = length (bytes_received link Initiator run) in
@@ -203,7 +197,7 @@ accepted_lives o link run call form xid none =
     ∙ ap (λ (b : Bool). (end_state_after (client_rules o) (client o link run) (if_own (b && true) (CallSubmitted place a ∷ []))).ended) (itself link)
     ∙ lives_on o (client o link run).state (client o link run).ended place a none
 
--- it is a new call: the next xid isn't below the first
+-- it is a new call: its xid isn't below the first, and no other call waits
 not_below : (n m : ℕ) → m ≤ n → ltb n m ≡ false
 not_below n m le = by (ltb n m) refl
   where
@@ -211,45 +205,56 @@ not_below n m le = by (ltb n m) refl
     by true is = absurd (let lt = ltb-true n m is in omega (arith, lt, le))
     by false is = refl
 
-is_new : (s : Setting) (link : ℕ) (d : Drill) (v : DrillLinkState) (xid : ℕ) → LinkStands s link d v → xid ≡ v.client.state.next_xid → is_sent_again s link (submissions.Accepted xid) ≡ false
-is_new s link d v xid h next =
-    let o : LinkParameters = s.opened link in
-    let k : ClientState = (client o link d.marks).state in
-    let follows : k.next_xid + length o.resumed ≡ o.first_xid + k.sends + length k.waiting = next_xid_follows o link d.marks in
-    let kept : v.client.state.next_xid ≡ k.next_xid = h.client.keeps.kept.keeps.xid in
-    let none : length o.resumed ≡ 0 = ap (λ (rs : List ResumedCall). length rs) (h.firsts.on link).resumed in
-    not_below xid o.first_xid (omega (arith, follows, kept, none, next))
+-- the next xid is at least the first one of the link
+first_or_more : (s : Setting) (link : ℕ) (d : Drill) (v : DrillLinkState) → LinkStands s link d v → (s.opened link).first_xid ≤ v.client.state.next_xid
+first_or_more s link d v h =
+    (let least = next_least (s.opened link) link d.marks in let kept = h.client.1.keeps.kept.keeps.xid in omega (arith, least, kept))
 
 not_memory : (ended : Option End) → ended ≡ None → ended ≢ Some ends.Memory
 not_memory None none e = absurd cc
 not_memory (Some end) none e = absurd cc
 
-pub client_call : (v h v2 : DrillLinkState) (asks : RequesterSide) (left : List AwaitedLine) (call : Call) (form : Form) (answer : Submission) → v ≡ h → v.is_dropped ≡ false → SubmitsLine call form v.lines answer v.client asks v.awaited left →
-    v2 ≡ with_line v asks left → AnswersCall call form answer h v2
-client_call v h v2 asks left call form (submissions.Accepted xid) same standing t is s link d stands =
+no_messages : (opened : LinkParameters) (ws : List WaitingCall) → map (waiting_message opened) ws ≡ [] → ws ≡ []
+no_messages opened [] e = refl
+no_messages opened (w ∷ ws) e = absurd cc
+
+-- a call is accepted only while none is held back
+none_wait : (s : Setting) (link : ℕ) (d : Drill) (v : DrillLinkState) (call : Call) (form : Form) (xid : ℕ) → LinkStands s link d v → answer_of v.client.state call form ≡ submissions.Accepted xid → v.client.state.side.ended ≡ None →
+    (client (s.opened link) link d.marks).state.waiting ≡ []
+none_wait s link d v call form xid h accepted live =
+    no_messages (s.opened link) (client (s.opened link) link d.marks).state.waiting (sym (h.client.1.keeps.side live).held ∙ none_held v.client.state call form xid accepted)
+
+pub client_call : (v h v2 : DrillLinkState) (asks : RequesterSide) (left : List AwaitedLine) (calls : List AcceptedCall) (call : Call) (form : Form) (answer : Submission) → v ≡ h → v.is_dropped ≡ false →
+    SubmitsLine call form v.lines answer v.client asks v.awaited left v.calls calls → v2 ≡ with_line v asks left calls → AnswersCall call form answer h v2
+client_call v h v2 asks left calls call form (submissions.Accepted xid) same standing t is s link d stands =
     let at : LinkStands s link d v = subst (λ (x : DrillLinkState). LinkStands s link d x) (sym same) stands in
     let o : LinkParameters = s.opened link in
     let mark : Mark = marks.Submit link call form (submissions.Accepted xid) in
     let next : (v.client.state.side.ended ≡ None) × (xid ≡ v.client.state.next_xid) = accepted_next v.client.state call form xid t.0 in
-    let represents : RequesterRepresents o link asks (d.marks ++ mark ∷ []) = t.1.0 o link d.marks at.client in
-    let ended : asks.state.side.ended ≡ None = represents.keeps.kept.keeps.ended ∙ accepted_lives o link d.marks call form xid (sym at.client.keeps.kept.keeps.ended ∙ next.0) in
-    let first : v.client.state.next_xid ≤ xid = (let e = next.1 in omega (arith, e)) in
-    let due : is_due link d.marks xid ≡ true = at.client.answers.to_come xid first in (
+    let represents : StandsForClient o link asks (d.marks ++ mark ∷ []) = asks_on v.client asks (λ (l : ℕ). marks.Submit l call form (submissions.Accepted xid)) t.1 o link d.marks at.client in
+    let ended : asks.state.side.ended ≡ None = ended_as o link asks (d.marks ++ mark ∷ []) represents ∙ accepted_lives o link d.marks call form xid (sym (ended_as o link v.client d.marks at.client) ∙ next.0) in
+    let above : o.first_xid ≤ xid = (let least = first_or_more s link d v at in let e = next.1 in omega (arith, least, e)) in
+    let high : v.client.state.next_xid ≤ xid = (let e = next.1 in omega (arith, e)) in
+    let due : is_due link d.marks xid ≡ true = at.client.1.answers.to_come xid high in
+    let open_line : is_awaited s link d.marks (record { xid = xid; index = v.lines }) ≡ true = ap not (none_settled s link xid d.marks due (at.tracks.none_before xid above)) in (
       client_answer s link d v call form (submissions.Accepted xid) standing at t.0,
       subst (λ (x : DrillLinkState). LinkStands s link (with_mark mark d) x) (sym is)
-          (marked s link d v asks left call form (submissions.Accepted xid) at (is_new s link d v xid at next.1) represents (not_memory asks.state.side.ended ended)
-          (t.1.1 ∙ ap (λ (b : Bool). v.awaited ++ cond b (record { xid = xid; index = v.lines } ∷ []) []) (sym due))),
+          (marked s link d v asks left calls call form (submissions.Accepted xid) at represents (not_memory asks.state.side.ended ended)
+          (subst (λ (ls : List AwaitedLine). TracksCalls s link (d.marks ++ mark ∷ []) (v.lines + 1) ls calls v.waiting) (sym t.2)
+          (subst (λ (cs : List AcceptedCall). TracksCalls s link (d.marks ++ mark ∷ []) (v.lines + 1) (v.awaited ++ record { xid = xid; index = v.lines } ∷ []) cs v.waiting) (sym t.3)
+          (tracks_accepted s link d.marks call form xid v.lines v.awaited v.calls v.waiting (not_below xid o.first_xid above) (none_wait s link d v call form xid at t.0 next.0) due open_line at.tracks)))),
     )
-client_call v h v2 asks left call form (submissions.Refused why) same standing t is s link d stands =
+client_call v h v2 asks left calls call form (submissions.Refused why) same standing t is s link d stands =
     let at : LinkStands s link d v = subst (λ (x : DrillLinkState). LinkStands s link d x) (sym same) stands in
     let mark : Mark = marks.Submit link call form (submissions.Refused why) in
-    let rest : LinkStands s link (with_mark mark d) (with_line v v.client v.awaited) =
-    marked s link d v v.client v.awaited call form (submissions.Refused why) at refl (others_leave_it (s.opened link) link v.client d.marks mark at.client refl refl refl (λ xid. refl)) at.client_memory (sym (append-nil v.awaited)) in (
+    let rest : LinkStands s link (with_mark mark d) (with_line v v.client v.awaited v.calls) =
+    marked s link d v v.client v.awaited v.calls call form (submissions.Refused why) at (others_leave (s.opened link) link v.client d.marks mark at.client refl refl refl (λ xid. refl)) at.client_memory
+    (tracks_refused s link d.marks call form (submissions.Refused why) v.lines v.awaited v.calls v.waiting refl refl (λ index. refl) at.tracks) in
+    let link_is : v2 ≡ with_line v v.client v.awaited v.calls = is ∙ (λ i. with_line v (t.1 i) (t.2 i) (t.3 i)) in (
       client_answer s link d v call form (submissions.Refused why) standing at t.0,
-      subst (λ (x : DrillLinkState). LinkStands s link (with_mark mark d) x) (sym is) (subst (λ (ls : List AwaitedLine). LinkStands s link (with_mark mark d) (with_line v asks ls)) (sym t.1.1)
-          (subst (λ (x : RequesterSide). LinkStands s link (with_mark mark d) (with_line v x v.awaited)) (sym t.1.0) rest)),
+      subst (λ (x : DrillLinkState). LinkStands s link (with_mark mark d) x) (sym link_is) rest,
     )
-client_call v h v2 asks left call form submissions.Dropped same standing t is s link d stands = absurd t
+client_call v h v2 asks left calls call form submissions.Dropped same standing t is s link d stands = absurd t
 
 -- ---- The step
 

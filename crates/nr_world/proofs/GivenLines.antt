@@ -1,24 +1,25 @@
 -- The lines of the calls that are awaited, and their tickets.
 use Rattle.std.specs.Prelude.{remove, is_some, slice_get}
-use Rattle.std.specs.List.{AllByRecursion}
-use Rattle.std.proofs.Common.{◌≡◌, ◌≢◌, ℕ, ◌+◌, ◌<◌, arith, zero, suc, eqb, Bool, true, false, not, ◌&&◌, cond, List, [], ◌∷◌, ◌++◌, map, length, take, drop, get_or, filter, Option, None, Some, refl, ap, sym, subst, ◌∙◌}
+use Rattle.std.specs.List.{AllByRecursion, list_any}
+use Rattle.std.proofs.Common.{◌≡◌, ◌≢◌, ℕ, ◌+◌, ◌<◌, arith, zero, suc, eqb, Bool, true, false, not, cond, List, [], ◌∷◌, ◌++◌, map, length, take, drop, get_or, filter, Option, None, Some, refl, ap, sym, subst, ◌∙◌}
 use Rattle.std.proofs.lemmas.Bool.{eq-eqb, ne_eqb}
 use Rattle.std.proofs.lemmas.List.{map-append}
 use Rattle.nr_reduce.specs.declared.call.Call.{Call}
 use Rattle.nr_reduce.specs.declared.call.Submission.{Submission}
-use Rattle.nr_reduce.specs.declared.call.Submission.TheVariants as submissions
 use Rattle.nr_reduce.specs.declared.mark.Mark.{Mark}
 use Rattle.nr_requester.specs.RequesterState.{RequesterState}
 use Rattle.nr_requester.specs.OpenCalls.{open_call, KeepsTickets}
-use Rattle.nr_requester.specs.KeptAnswers.{is_due}
-use Rattle.nr_requester.specs.Laws.{gives_up}
-use Rattle.nr_requester.proofs.AnswerSteps.{due_one, all_as, all_filter}
+use Rattle.nr_requester.proofs.AnswerSteps.{all_as, all_filter}
+use Rattle.nr_drill.specs.Drill.{client_of, Setting, settles}
 use Rattle.nr_world.specs.declared.awaited.AwaitedCall.{AwaitedCall}
 use Rattle.nr_world.specs.DrillLinkState.{AwaitedLine}
-use Rattle.nr_world.specs.LinkStands.{answers_of, lines_from, is_awaited, awaited_lines, answer_on}
-use Rattle.nr_world.specs.OpenTickets.{LinesOpen, IsTakenOut, TakesLine}
-use Rattle.nr_world.specs.Views.{line_view}
-use Rattle.nr_world.proofs.CallLines.{filter_as, filter_parts, answers_same}
+use Rattle.nr_world.specs.LinkStands.{answers_of, lines_from, is_awaited, awaited_lines}
+use Rattle.nr_world.specs.OpenTickets.{LinesOpen, IsTakenOut, TakesLine, AreApart, calls_without, TakesCall}
+use Rattle.nr_world.specs.Views.{line_view, call_view}
+use Rattle.nr_world.proofs.CallLines.{filter_parts}
+use Rattle.nr_reduce.specs.History.{AcceptedCall}
+use Rattle.nr_world.proofs.SettledCalls.{lines_without}
+use Rattle.nr_reduce.specs.declared.call.Submission.TheVariants as submissions
 
 -- ---- A line is taken out
 
@@ -123,22 +124,23 @@ all_pass {X = X} p (x ∷ xs) = by (p x) refl (all_pass p xs)
     by false e rest = rest
 
 -- an awaited line was taken out: the call of its number was accepted under this xid, and is awaited
-pub line_answer : (link : ℕ) (run : List Mark) (index xid : ℕ) (lines left : List AwaitedLine) → lines ≡ awaited_lines link run → IsTakenOut index xid lines left → slice_get (answers_of link run) index ≡ Some (submissions.Accepted xid)
+pub line_answer : (s : Setting) (link : ℕ) (run : List Mark) (index xid : ℕ) (lines left : List AwaitedLine) → lines ≡ awaited_lines s link run → IsTakenOut index xid lines left → slice_get (answers_of s link run) index ≡ Some (submissions.Accepted xid)
 unfolding awaited_lines
-line_answer link run index xid lines left is t =
+line_answer s link run index xid lines left is t =
     let line : AwaitedLine = record { xid = xid; index = index } in
-    let all : AllByRecursion (IsLineOf 0 (answers_of link run)) (t.before ++ line ∷ t.after) =
-    subst (λ (ls : List AwaitedLine). AllByRecursion (IsLineOf 0 (answers_of link run)) ls) (sym is ∙ t.were)
-    (all_filter (IsLineOf 0 (answers_of link run)) (is_awaited link run) (lines_from 0 (answers_of link run)) (all_lines 0 (answers_of link run))) in
-    let own : IsLineOf 0 (answers_of link run) line = middle (IsLineOf 0 (answers_of link run)) t.before t.after line all in
+    let answers : List Submission = answers_of s link run in
+    let all : AllByRecursion (IsLineOf 0 answers) (t.before ++ line ∷ t.after) =
+    subst (λ (ls : List AwaitedLine). AllByRecursion (IsLineOf 0 answers) ls) (sym is ∙ t.were)
+    (all_filter (IsLineOf 0 answers) (is_awaited s link run) (lines_from 0 answers) (all_lines 0 answers)) in
+    let own : IsLineOf 0 answers line = middle (IsLineOf 0 answers) t.before t.after line all in
     let at : index ≡ own.0 = (let e : index ≡ 0 + own.0 = own.1 in omega (arith, e)) in
-    ap (λ (n : ℕ). slice_get (answers_of link run) n) at ∙ own.2
+    ap (λ (n : ℕ). slice_get answers n) at ∙ own.2
 
-pub line_awaited : (link : ℕ) (run : List Mark) (index xid : ℕ) (lines left : List AwaitedLine) → lines ≡ awaited_lines link run → IsTakenOut index xid lines left → is_awaited link run (record { xid = xid; index = index }) ≡ true
+pub line_awaited : (s : Setting) (link : ℕ) (run : List Mark) (index xid : ℕ) (lines left : List AwaitedLine) → lines ≡ awaited_lines s link run → IsTakenOut index xid lines left → is_awaited s link run (record { xid = xid; index = index }) ≡ true
 unfolding awaited_lines
-line_awaited link run index xid lines left is t =
-    middle (λ (line : AwaitedLine). is_awaited link run line ≡ true) t.before t.after (record { xid = xid; index = index })
-    (subst (λ (ls : List AwaitedLine). AllByRecursion (λ (line : AwaitedLine). is_awaited link run line ≡ true) ls) (sym is ∙ t.were) (all_pass (is_awaited link run) (lines_from 0 (answers_of link run))))
+line_awaited s link run index xid lines left is t =
+    middle (λ (line : AwaitedLine). is_awaited s link run line ≡ true) t.before t.after (record { xid = xid; index = index })
+    (subst (λ (ls : List AwaitedLine). AllByRecursion (λ (line : AwaitedLine). is_awaited s link run line ≡ true) ls) (sym is ∙ t.were) (all_pass (is_awaited s link run) (lines_from 0 (answers_of s link run))))
 
 abbrev accepted_xid : Option Submission → ℕ
 accepted_xid (Some (submissions.Accepted xid)) = xid
@@ -182,23 +184,15 @@ not_due due start (suc n) xid (submissions.Accepted x ∷ answers) e h =
 not_due due start (suc n) xid (submissions.Refused why ∷ answers) e h = not_due due (start + 1) n xid answers e (moved_on start n (due_lines due (start + 1) answers) h)
 not_due due start (suc n) xid (submissions.Dropped ∷ answers) e h = not_due due (start + 1) n xid answers e (moved_on start n (due_lines due (start + 1) answers) h)
 
-pub not_awaited : (link : ℕ) (run : List Mark) (index xid : ℕ) → AllByRecursion (λ (line : AwaitedLine). line.index ≢ index) (awaited_lines link run) → slice_get (answers_of link run) index ≡ Some (submissions.Accepted xid) →
-    is_due link run xid ≡ false
+pub not_awaited : (s : Setting) (link : ℕ) (run : List Mark) (index xid : ℕ) → AllByRecursion (λ (line : AwaitedLine). line.index ≢ index) (awaited_lines s link run) → slice_get (answers_of s link run) index ≡ Some (submissions.Accepted xid) →
+    not (list_any (settles s (client_of s link) xid) run) ≡ false
 unfolding awaited_lines
-not_awaited link run index xid none is =
+not_awaited s link run index xid none is =
     let same : index ≡ 0 + index = omega arith in
-    not_due (is_due link run) 0 index xid (answers_of link run) is (subst (λ (n : ℕ). AllByRecursion (λ (line : AwaitedLine). line.index ≢ n) (due_lines (is_due link run) 0 (answers_of link run))) same none)
+    let open_xid : ℕ → Bool = λ x. not (list_any (settles s (client_of s link) x) run) in
+    not_due open_xid 0 index xid (answers_of s link run) is (subst (λ (n : ℕ). AllByRecursion (λ (line : AwaitedLine). line.index ≢ n) (due_lines open_xid 0 (answers_of s link run))) same none)
 
 -- ---- The lines once a call is given up
-
-filter_both : (p q : AwaitedLine → Bool) (xs : List AwaitedLine) → filter (λ x. p x && q x) xs ≡ filter q (filter p xs)
-filter_both p q [] = refl
-filter_both p q (x ∷ xs) = by (p x) (q x) refl (filter_both p q xs)
-  where
-    by : (a b : Bool) → q x ≡ b → filter (λ x. p x && q x) xs ≡ filter q (filter p xs) → cond (a && b) (x ∷ filter (λ x. p x && q x) xs) (filter (λ x. p x && q x) xs) ≡ filter q (cond a (x ∷ filter p xs) (filter p xs))
-    by true true e rest = (λ i. x ∷ rest i) ∙ sym (ap (λ (c : Bool). cond c (x ∷ filter q (filter p xs)) (filter q (filter p xs))) e)
-    by true false e rest = rest ∙ sym (ap (λ (c : Bool). cond c (x ∷ filter q (filter p xs)) (filter q (filter p xs))) e)
-    by false b e rest = rest
 
 others_of : (xid : ℕ) (lines : List AwaitedLine) → AllByRecursion (λ (line : AwaitedLine). line.xid ≢ xid) lines → filter (λ (line : AwaitedLine). not (eqb xid line.xid)) lines ≡ lines
 others_of xid [] h = refl
@@ -223,17 +217,40 @@ one_less xid index before after h =
     ++ cond (not (eq-eqb xid xid refl i)) (record { xid = xid; index = index } ∷ filter other after) (filter other after))
     ∙ ap (λ (rest : List AwaitedLine). before ++ rest) (others_of xid after (right_part (λ (line : AwaitedLine). line.xid ≢ xid) before after h))
 
--- a mark that gives up this call and no other
-pub awaited_less : (link : ℕ) (run : List Mark) (mark : Mark) (r : RequesterState) (index xid : ℕ) (lines left : List AwaitedLine) → answer_on link mark ≡ [] → ((x : ℕ) → gives_up link x mark ≡ eqb xid x) → LinesOpen r lines →
-    lines ≡ awaited_lines link run → IsTakenOut index xid lines left → left ≡ awaited_lines link (run ++ mark ∷ [])
-unfolding awaited_lines
-awaited_less link run mark r index xid lines left none gives h is t =
+-- the lines that are left are those of other xids
+pub left_without : (r : RequesterState) (index xid : ℕ) (lines left : List AwaitedLine) → LinesOpen r lines → IsTakenOut index xid lines left → left ≡ lines_without xid lines
+left_without r index xid lines left h t =
     let line : AwaitedLine = record { xid = xid; index = index } in
-    let other : AwaitedLine → Bool = λ a. not (eqb xid a.xid) in
     let all : LinesOpen r (t.before ++ line ∷ t.after) = subst (λ (ls : List AwaitedLine). LinesOpen r ls) t.were h in
-    let passed : filter (is_awaited link (run ++ mark ∷ [])) (lines_from 0 (answers_of link (run ++ mark ∷ []))) ≡ filter other (filter (is_awaited link run) (lines_from 0 (answers_of link run))) =
-    ap (λ (answers : List Submission). filter (is_awaited link (run ++ mark ∷ [])) (lines_from 0 answers)) (answers_same link run mark none)
-    ∙ filter_as (is_awaited link (run ++ mark ∷ [])) (λ a. is_awaited link run a && other a) (lines_from 0 (answers_of link run))
-    (λ a. due_one link run mark a.xid ∙ ap (λ (b : Bool). is_due link run a.xid && not b) (gives a.xid))
-    ∙ filter_both (is_awaited link run) other (lines_from 0 (answers_of link run)) in
-    sym (passed ∙ ap (λ (ls : List AwaitedLine). filter other ls) (sym is ∙ t.were) ∙ one_less xid index t.before t.after (others_apart r t.before t.after line all) ∙ sym t.are)
+    t.are ∙ sym (ap (λ (ls : List AwaitedLine). lines_without xid ls) t.were ∙ one_less xid index t.before t.after (others_apart r t.before t.after line all))
+
+-- ---- A call is taken out with its line
+
+calls_kept : (xid : ℕ) (calls : List AwaitedCall) → AllByRecursion (λ (other : AwaitedCall). other.ticket ≢ xid) calls → calls_without xid (map call_view calls) ≡ map call_view calls
+calls_kept xid [] h = refl
+calls_kept xid (call ∷ calls) h =
+    ap (λ (b : Bool). cond (not b) (call_view call ∷ calls_without xid (map call_view calls)) (calls_without xid (map call_view calls))) (ne_eqb xid call.ticket (λ e. h.0 (sym e)))
+    ∙ ap (λ (rest : List AcceptedCall). call_view call ∷ rest) (calls_kept xid calls h.1)
+
+at_apart : (xid : ℕ) (calls : List AwaitedCall) (at : ℕ) (d : AwaitedCall) → AllByRecursion (λ (other : AwaitedCall). other.ticket ≢ xid) calls → at < length calls → (get_or calls at d).ticket ≢ xid
+at_apart xid [] at d h within = absurd (omega (arith, within))
+at_apart xid (call ∷ calls) zero d h within = h.0
+at_apart xid (call ∷ calls) (suc at) d h within = at_apart xid calls at d h.1 (omega (arith, within))
+
+pub call_taken : (calls : List AwaitedCall) (at : ℕ) (d : AwaitedCall) → at < length calls → AreApart calls → map call_view (remove calls at) ≡ calls_without (get_or calls at d).ticket (map call_view calls)
+call_taken [] at d within apart = absurd (omega (arith, within))
+call_taken (call ∷ calls) zero d within apart =
+    sym (ap (λ (b : Bool). cond (not b) (call_view call ∷ calls_without call.ticket (map call_view calls)) (calls_without call.ticket (map call_view calls))) (eq-eqb call.ticket call.ticket refl) ∙ calls_kept call.ticket calls apart.0)
+call_taken (call ∷ calls) (suc at) d within apart =
+    let inside : at < length calls = omega (arith, within) in
+    let xid : ℕ = (get_or calls at d).ticket in
+    let other : xid ≢ call.ticket = at_apart call.ticket calls at d apart.0 inside in
+    ap (λ (rest : List AcceptedCall). call_view call ∷ rest) (call_taken calls at d inside apart.1)
+    ∙ sym (ap (λ (b : Bool). cond (not b) (call_view call ∷ calls_without xid (map call_view calls)) (calls_without xid (map call_view calls))) (ne_eqb xid call.ticket other))
+
+-- as the code has it
+pub takes_call : (at : ℕ) (items slice left : List AwaitedCall) (call : AwaitedCall) → slice ≡ items → at < length slice → call ≡ get_or items at call → left ≡ remove items at → AreApart items →
+    TakesCall (Some call.ticket) (map call_view items) (map call_view left)
+takes_call at items slice left call same within value is apart =
+    ap (λ (cs : List AwaitedCall). map call_view cs) is ∙ call_taken items at call (subst (λ (xs : List AwaitedCall). at < length xs) same within) apart
+    ∙ ap (λ (c : AwaitedCall). calls_without c.ticket (map call_view items)) (sym value)

@@ -1,18 +1,12 @@
 -- Outcomes that are due are handed over.
 use Rattle.std.specs.Prelude.{◌&&◌, not, slice_get}
 use Rattle.std.specs.List.{AllByRecursion, filter, find, flat_map}
-use Rattle.std.proofs.Common.{◌≡◌, ℕ, ◌+◌, ◌≤◌, arith, zero, suc, eqb, eqb-true, Bool, true, false, cond, List, [], ◌∷◌, ◌++◌, length, map, Option, None, Some, refl, ap, sym, subst, ◌∙◌, append-nil}
-use Rattle.std.proofs.lemmas.Grind.{flat_map-append}
+use Rattle.std.proofs.Common.{◌≡◌, ℕ, ◌+◌, ◌≤◌, arith, zero, suc, eqb, eqb-true, Bool, true, false, cond, List, [], ◌∷◌, ◌++◌, length, map, Option, None, Some, refl, ap, sym, subst, ◌∙◌, append-nil, drop, ◌⊎◌, get_or, Contains, inr, inl, ⊎_elim}
 use Rattle.std.proofs.lemmas.List.{map-append}
-use Rattle.nr_reduce.specs.declared.call.Call.{Call}
-use Rattle.nr_reduce.specs.declared.call.Form.{Form}
 use Rattle.nr_reduce.specs.declared.call.Outcome.{Outcome}
-use Rattle.nr_reduce.specs.declared.call.Submission.{Submission}
-use Rattle.nr_reduce.specs.declared.call.Submission.TheVariants as submissions
 use Rattle.nr_reduce.specs.declared.mark.LinkParameters.{LinkParameters}
 use Rattle.nr_reduce.specs.declared.mark.Mark.{Mark}
-use Rattle.nr_reduce.specs.declared.mark.Mark.TheVariants as marks
-use Rattle.nr_reduce.specs.History.{AcceptedCall, CompletedCall, accepted_as, accepted_at, accepted_calls}
+use Rattle.nr_reduce.specs.History.{AcceptedCall, CompletedCall, accepted_calls}
 use Rattle.nr_reduce.specs.OutcomesDue.{outcomes_of_call, outcomes_due}
 use Rattle.nr_reduce.specs.EndRules.{EndState}
 use Rattle.nr_reduce.specs.ClientState.{ClientState}
@@ -24,77 +18,24 @@ use Rattle.nr_requester.specs.declared.answer.AnsweredCall.{AnsweredCall}
 use Rattle.nr_requester.specs.RequesterState.{RequesterState, RequesterSide}
 use Rattle.nr_requester.specs.KeptAnswers.{is_due, completed_of}
 use Rattle.nr_requester.specs.OpenCalls.{found_answer}
-use Rattle.nr_requester.specs.Standing.{RequesterRepresents, AnswersAfter}
 use Rattle.nr_requester.proofs.AnswerSteps.{due_one, done_gives}
-use Rattle.nr_requester.proofs.FirstDue.{first_is_due_first}
 use Rattle.nr_drill.specs.Drill.{Setting, Drill, after_handing, after_done, after_dones, after_outcomes}
 use Rattle.nr_world.specs.DrillLinkState.{AwaitedLine}
-use Rattle.nr_world.specs.LinkStands.{answers_of, lines_from, is_awaited, awaited_lines, answer_on}
 use Rattle.nr_world.specs.private.HandsOver.{HaveNoOutcome}
-use Rattle.nr_world.proofs.CallLines.{filter_as, answers_same}
+use Rattle.nr_world.proofs.WaitingAnswers.{CallsApart, waits_unanswered}
+use Rattle.nr_world.specs.LinkStands.{StandsForClient, call_ids, due_calls, line_ids, link_calls, waiting_calls}
+use Rattle.nr_drill.proofs.Lawful.{here}
+use Rattle.nr_world.proofs.Requesters.{due_first, kept_outcomes}
+use Rattle.nr_world.proofs.SettledCalls.{ids_filtered}
+use Rattle.std.proofs.lemmas.List.Elements.{Contains-append_right}
+use Rattle.nr_reduce.specs.declared.call.Submission.TheVariants as submissions
+use Rattle.nr_reduce.specs.declared.mark.Mark.TheVariants as marks
 
--- ---- The xids of the call lines
+-- ---- The xids of the awaited lines are those of the calls that are or will be due
 
-abbrev line_ids : List AwaitedLine → List ℕ
-line_ids lines = map (λ (line : AwaitedLine). line.xid) lines
-
-abbrev call_ids : List AcceptedCall → List ℕ
-call_ids calls = map (λ (call : AcceptedCall). call.xid) calls
-
-abbrev given_id : Submission → List ℕ
-given_id (submissions.Accepted xid) = xid ∷ []
-given_id (submissions.Refused why) = []
-given_id submissions.Dropped = []
-
-ids_from : (index : ℕ) (answers : List Submission) → line_ids (lines_from index answers) ≡ flat_map given_id answers
-ids_from index [] = refl
-ids_from index (submissions.Accepted xid ∷ answers) = ap (λ (xs : List ℕ). xid ∷ xs) (ids_from (index + 1) answers)
-ids_from index (submissions.Refused why ∷ answers) = ids_from (index + 1) answers
-ids_from index (submissions.Dropped ∷ answers) = ids_from (index + 1) answers
-
-given_as : (answer : Submission) (call : Call) (form : Form) → flat_map given_id (answer ∷ []) ≡ call_ids (accepted_as answer call form)
-given_as (submissions.Accepted xid) call form = refl
-given_as (submissions.Refused why) call form = refl
-given_as submissions.Dropped call form = refl
-
-one_given : (link : ℕ) (mark : Mark) → flat_map given_id (answer_on link mark) ≡ call_ids (accepted_at link mark)
-one_given link (marks.Submit l call form answer) = by (eqb l link)
-  where
-    by : (b : Bool) → flat_map given_id (cond b (answer ∷ []) []) ≡ call_ids (cond b (accepted_as answer call form) [])
-    by true = given_as answer call form
-    by false = refl
-one_given link (marks.Wrote l side bytes) = refl
-one_given link (marks.Fed l side bytes) = refl
-one_given link (marks.Execute l xid moment payload place reply) = refl
-one_given link (marks.Done l xid outcome) = refl
-one_given link (marks.Lost l xid) = refl
-one_given link (marks.Forget l xid) = refl
-one_given link (marks.Revoke l xid bytes) = refl
-one_given link (marks.Drop l) = refl
-one_given link (marks.Told l what) = refl
-
-all_given : (link : ℕ) (run : List Mark) → flat_map given_id (flat_map (answer_on link) run) ≡ call_ids (flat_map (accepted_at link) run)
-all_given link [] = refl
-all_given link (mark ∷ run) =
-    flat_map-append given_id (answer_on link mark) (flat_map (answer_on link) run)
-    ∙ (λ i. one_given link mark i ++ all_given link run i)
-    ∙ sym (map-append (λ (call : AcceptedCall). call.xid) (accepted_at link mark) (flat_map (accepted_at link) run))
-
-map_filter : (p : ℕ → Bool) (lines : List AwaitedLine) → line_ids (filter (λ (line : AwaitedLine). p line.xid) lines) ≡ filter p (line_ids lines)
-map_filter p [] = refl
-map_filter p (line ∷ lines) = by (p line.xid) (map_filter p lines)
-  where
-    by : (b : Bool) → line_ids (filter (λ (line : AwaitedLine). p line.xid) lines) ≡ filter p (line_ids lines) →
-        line_ids (cond b (line ∷ filter (λ (line : AwaitedLine). p line.xid) lines) (filter (λ (line : AwaitedLine). p line.xid) lines)) ≡ cond b (line.xid ∷ filter p (line_ids lines)) (filter p (line_ids lines))
-    by true rest = ap (λ (xs : List ℕ). line.xid ∷ xs) rest
-    by false rest = rest
-
--- those of the lines that are awaited are those of the accepted calls whose outcome is or will be due
-awaited_ids : (link : ℕ) (run : List Mark) → line_ids (awaited_lines link run) ≡ filter (is_due link run) (call_ids (accepted_calls link run))
-unfolding awaited_lines accepted_calls
-awaited_ids link run =
-    map_filter (is_due link run) (lines_from 0 (answers_of link run))
-    ∙ ap (λ (xs : List ℕ). filter (is_due link run) xs) (ids_from 0 (answers_of link run) ∙ all_given link run)
+due_ids : (o : LinkParameters) (link : ℕ) (run : List Mark) → call_ids (due_calls o link run) ≡ filter (is_due link run) (call_ids (link_calls o link run))
+unfolding due_calls
+due_ids o link run = ids_filtered (λ (a : AcceptedCall). a.xid) (is_due link run) (link_calls o link run)
 
 -- ---- A call whose outcome isn't due has no answer
 
@@ -117,10 +58,10 @@ none_found due xid (a ∷ answers) off all = by (eqb a.xid xid) refl (none_found
     by true is rest = absurd (let wrong : true ≡ false = sym all.0 ∙ ap due (eqb-true a.xid xid is) ∙ off in cc)
     by false is rest = rest
 
-not_due : (o : LinkParameters) (link : ℕ) (h : RequesterSide) (run : List Mark) (xid : ℕ) → AnswersAfter o link h run → is_due link run xid ≡ false → found_answer xid h.state ≡ None
+not_due : (o : LinkParameters) (link : ℕ) (h : RequesterSide) (run : List Mark) (xid : ℕ) → StandsForClient o link h run → is_due link run xid ≡ false → found_answer xid h.state ≡ None
 not_due o link h run xid k off =
     none_found (is_due link run) xid h.state.answered off
-    (subst (λ (cs : List CompletedCall). AllByRecursion (λ (c : CompletedCall). is_due link run c.xid ≡ true) cs) (sym k.outcomes) (all_kept (λ (c : CompletedCall). is_due link run c.xid) _))
+    (subst (λ (cs : List CompletedCall). AllByRecursion (λ (c : CompletedCall). is_due link run c.xid ≡ true) cs) (sym (kept_outcomes o link h run k)) (all_kept (λ (c : CompletedCall). is_due link run c.xid) _))
 
 -- ---- The first awaited call that has an answer
 
@@ -171,20 +112,52 @@ all_ids F (line ∷ lines) all = (all.0, all_ids F lines all.1)
 abbrev has_none : RequesterState → ℕ → Type 0
 has_none r xid = found_answer xid r ≡ None
 
-pub first_awaited : (o : LinkParameters) (link : ℕ) (h : RequesterSide) (run : List Mark) (front back : List AwaitedLine) (line : AwaitedLine) (a : AnsweredCall) → RequesterRepresents o link h run → front ++ line ∷ back ≡ awaited_lines link run →
-    HaveNoOutcome h.state front → found_answer line.xid h.state ≡ Some a → (rest : List CompletedCall) × (outcomes_due o link run ≡ completed_of a ∷ rest)
-first_awaited o link h run front back line a s is none there =
-    let ids : filter (is_due link run) (call_ids (accepted_calls link run)) ≡ line_ids front ++ line.xid ∷ line_ids back =
-    sym (awaited_ids link run) ∙ ap (λ (lines : List AwaitedLine). line_ids lines) (sym is) ∙ map-append (λ (l : AwaitedLine). l.xid) front (line ∷ back) in
-    let p : Splits (has_none h.state) (accepted_calls link run) line.xid =
-    splits_at (has_none h.state) (is_due link run) (λ x off. not_due o link h run x s.answers off) (accepted_calls link run) (line_ids front) line.xid (line_ids back) ids (all_ids (has_none h.state) front none) in
-    (first_is_due_first o link h run s).0 p.before p.after p.call a p.is p.all (ap (λ (x : ℕ). found_answer x h.state) p.own ∙ there)
+-- the first of two parts has the place, or the second
+split_parts : (F : ℕ → Type 0) (accepted waiting : List AcceptedCall) (xid : ℕ) → Splits F (accepted ++ waiting) xid → Splits F accepted xid ⊎ ((w : AcceptedCall) × Contains waiting w × (w.xid ≡ xid))
+split_parts F [] waiting xid s = inr (s.call, subst (λ (cs : List AcceptedCall). Contains cs s.call) (sym s.is) (Contains-append_right s.before (s.call ∷ s.after) s.call (here s.call s.after s.call refl)), s.own)
+split_parts F (c ∷ accepted) waiting xid s = by s.before s.is s.all (λ t. split_parts F accepted waiting xid t)
+  where
+    by : (before : List AcceptedCall) → c ∷ (accepted ++ waiting) ≡ before ++ s.call ∷ s.after → AllByRecursion (λ (x : AcceptedCall). F x.xid) before →
+        (Splits F (accepted ++ waiting) xid → Splits F accepted xid ⊎ ((w : AcceptedCall) × Contains waiting w × (w.xid ≡ xid))) → Splits F (c ∷ accepted) xid ⊎ ((w : AcceptedCall) × Contains waiting w × (w.xid ≡ xid))
+    by [] is all rest = inl (record { before = []; call = c; after = accepted; is = refl; own = ap (λ (cs : List AcceptedCall). (get_or cs 0 c).xid) is ∙ s.own; all = tt })
+    by (b ∷ before) is all rest =
+        let same : c ≡ b = ap (λ (cs : List AcceptedCall). get_or cs 0 c) is in
+        let later : accepted ++ waiting ≡ before ++ s.call ∷ s.after = ap (λ (cs : List AcceptedCall). drop 1 cs) is in
+        ⊎_elim
+        (λ (t : Splits F accepted xid). inl (record { before = c ∷ t.before; call = t.call; after = t.after; is = ap (λ (cs : List AcceptedCall). c ∷ cs) t.is; own = t.own; all = (subst (λ (x : AcceptedCall). F x.xid) (sym same) all.0, t.all) }))
+        (λ (t : (w : AcceptedCall) × Contains waiting w × (w.xid ≡ xid)). inr t)
+        (rest (record { before = before; call = s.call; after = s.after; is = later; own = s.own; all = all.1 }))
 
-pub none_awaited : (o : LinkParameters) (link : ℕ) (h : RequesterSide) (run : List Mark) (lines : List AwaitedLine) → RequesterRepresents o link h run → lines ≡ awaited_lines link run → HaveNoOutcome h.state lines → outcomes_due o link run ≡ []
-none_awaited o link h run lines s is none =
-    (first_is_due_first o link h run s).1
-    (all_calls (has_none h.state) (is_due link run) (λ x off. not_due o link h run x s.answers off) (accepted_calls link run)
-    (subst (λ (xs : List ℕ). AllByRecursion (has_none h.state) xs) (ap (λ (ls : List AwaitedLine). line_ids ls) is ∙ awaited_ids link run) (all_ids (has_none h.state) lines none)))
+pub first_awaited : (s : Setting) (o : LinkParameters) (link : ℕ) (h : RequesterSide) (run : List Mark) (front back : List AwaitedLine) (line : AwaitedLine) (calls : List AcceptedCall) (a : AnsweredCall) → StandsForClient o link h run → CallsApart h.state →
+    calls ≡ due_calls o link run → call_ids calls ≡ line_ids (front ++ line ∷ back) → HaveNoOutcome h.state front → found_answer line.xid h.state ≡ Some a → (rest : List CompletedCall) × (outcomes_due o link run ≡ completed_of a ∷ rest)
+first_awaited s o link h run front back line calls a k apart is same none there = by (split_parts (has_none h.state) (accepted_calls link run) (waiting_calls o link run) line.xid p)
+  where
+    ids : filter (is_due link run) (call_ids (link_calls o link run)) ≡ line_ids front ++ line.xid ∷ line_ids back
+    ids = sym (due_ids o link run) ∙ sym (ap (λ (cs : List AcceptedCall). call_ids cs) is) ∙ same ∙ map-append (λ (l : AwaitedLine). l.xid) front (line ∷ back)
+
+    p : Splits (has_none h.state) (link_calls o link run) line.xid
+    p = splits_at (has_none h.state) (is_due link run) (λ x off. not_due o link h run x k off) (link_calls o link run) (line_ids front) line.xid (line_ids back) ids (all_ids (has_none h.state) front none)
+
+    some_none : (b : AnsweredCall) (q : Option AnsweredCall) → q ≡ Some b → q ≡ None → ⊥
+    some_none b None e f = absurd cc
+    some_none b (Some c) e f = absurd cc
+
+    by : Splits (has_none h.state) (accepted_calls link run) line.xid ⊎ ((w : AcceptedCall) × Contains (waiting_calls o link run) w × (w.xid ≡ line.xid)) → (rest : List CompletedCall) × (outcomes_due o link run ≡ completed_of a ∷ rest)
+    by (inl q) = (due_first o link h run k).0 q.before q.after q.call a q.is q.all (ap (λ (x : ℕ). found_answer x h.state) q.own ∙ there)
+    by (inr (w, in_waiting, own)) =
+        absurd (some_none a (found_answer line.xid h.state) there (ap (λ (x : ℕ). found_answer x h.state) (sym own) ∙ waits_unanswered o link h run w k apart in_waiting))
+
+left_all : (P : AcceptedCall → Type 0) (xs ys : List AcceptedCall) → AllByRecursion P (xs ++ ys) → AllByRecursion P xs
+left_all P [] ys all = tt
+left_all P (x ∷ xs) ys all = (all.0, left_all P xs ys all.1)
+
+pub none_awaited : (o : LinkParameters) (link : ℕ) (h : RequesterSide) (run : List Mark) (lines : List AwaitedLine) (calls : List AcceptedCall) → StandsForClient o link h run → calls ≡ due_calls o link run → call_ids calls ≡ line_ids lines → HaveNoOutcome h.state lines →
+    outcomes_due o link run ≡ []
+none_awaited o link h run lines calls k is same none =
+    (due_first o link h run k).1
+    (left_all (λ (c : AcceptedCall). has_none h.state c.xid) (accepted_calls link run) (waiting_calls o link run)
+    (all_calls (has_none h.state) (is_due link run) (λ x off. not_due o link h run x k off) (link_calls o link run)
+    (subst (λ (xs : List ℕ). AllByRecursion (has_none h.state) xs) (sym same ∙ ap (λ (cs : List AcceptedCall). call_ids cs) is ∙ due_ids o link run) (all_ids (has_none h.state) lines none))))
 
 -- ---- What is due once an outcome was handed over
 
@@ -201,15 +174,6 @@ with_done link run xid outcome = run ++ marks.Done link xid outcome ∷ []
 
 due_done : (link : ℕ) (run : List Mark) (xid : ℕ) (outcome : Outcome) (x : ℕ) → is_due link (with_done link run xid outcome) x ≡ (is_due link run x && not (eqb x xid))
 due_done link run xid outcome x = due_one link run (marks.Done link xid outcome) x ∙ ap (λ (b : Bool). is_due link run x && not b) (done_gives link xid outcome x)
-
-pub awaited_done : (link : ℕ) (run : List Mark) (xid : ℕ) (outcome : Outcome) → awaited_lines link (with_done link run xid outcome) ≡ filter (λ (line : AwaitedLine). not (eqb line.xid xid)) (awaited_lines link run)
-unfolding awaited_lines
-awaited_done link run xid outcome =
-    let mark : Mark = marks.Done link xid outcome in
-    let lines : List AwaitedLine = lines_from 0 (answers_of link run) in
-    ap (λ (answers : List Submission). filter (is_awaited link (run ++ mark ∷ [])) (lines_from 0 answers)) (answers_same link run mark refl)
-    ∙ filter_as (is_awaited link (run ++ mark ∷ [])) (λ (line : AwaitedLine). is_awaited link run line && not (eqb line.xid xid)) lines (λ line. due_done link run xid outcome line.xid)
-    ∙ filter_both (is_awaited link run) (λ (line : AwaitedLine). not (eqb line.xid xid)) lines
 
 outcomes_done : (o : LinkParameters) (link : ℕ) (run : List Mark) (xid : ℕ) (outcome : Outcome) → outcomes_due o link (with_done link run xid outcome) ≡ filter (λ (c : CompletedCall). not (eqb c.xid xid)) (outcomes_due o link run)
 unfolding outcomes_due

@@ -3,14 +3,11 @@ use Rattle.std.specs.Prelude.{is_some, not, slice_get}
 use Rattle.std.specs.List.{AllByRecursion, filter, find, remove}
 use Rattle.std.proofs.Common.{◌≡◌, ◌≢◌, ℕ, ◌≤◌, ◌<◌, arith, zero, suc, eqb, Bool, true, false, cond, List, [], ◌∷◌, ◌++◌, length, map, take, drop, get_or, Option, None, Some, refl, ap, sym, subst, ◌∙◌}
 use Rattle.std.proofs.lemmas.Bool.{ne_eqb}
-use Rattle.nr_link.specs.declared.end.End.TheVariants as ends
 use Rattle.nr_reduce.specs.declared.call.Outcome.{Outcome}
 use Rattle.nr_reduce.specs.declared.mark.Mark.{Mark}
-use Rattle.nr_reduce.specs.declared.mark.Mark.TheVariants as marks
-use Rattle.nr_reduce.specs.History.{CompletedCall}
+use Rattle.nr_reduce.specs.History.{CompletedCall, AcceptedCall}
 use Rattle.nr_reduce.specs.OutcomesDue.{outcomes_due}
 use Rattle.nr_reduce.proofs.Standing.{itself}
-use Rattle.nr_reduce.proofs.Unconcerned.{of_other_side}
 use Rattle.nr_requester.specs.declared.answer.AnsweredCall.{AnsweredCall}
 use Rattle.nr_requester.specs.RequesterState.{RequesterState, RequesterSide}
 use Rattle.nr_requester.specs.KeptAnswers.{completed_of}
@@ -22,14 +19,20 @@ use Rattle.nr_drill.proofs.Carried.{same_dropped}
 use Rattle.nr_world.specs.declared.awaited.AwaitedCall.{AwaitedCall}
 use Rattle.nr_world.specs.DrillLinkState.{AwaitedLine, DrillLinkState}
 use Rattle.nr_world.specs.private.HandsOver.{TakesOutcome, HaveNoOutcome, HandsAt}
-use Rattle.nr_world.specs.OpenTickets.{AreApart, AreOpen}
+use Rattle.nr_world.specs.OpenTickets.{AreApart, AreOpen, calls_without}
 use Rattle.nr_world.specs.Steps.{Goes, StandsAt}
-use Rattle.nr_world.specs.Views.{line_view}
-use Rattle.nr_world.proofs.HandOver.{first_awaited, none_awaited, awaited_done, dones_more, outcomes_are}
-use Rattle.nr_world.proofs.CallLines.{answers_same, own_one}
+use Rattle.nr_world.specs.Views.{line_view, call_view}
+use Rattle.nr_world.proofs.WaitingAnswers.{CallsApart}
+use Rattle.nr_world.proofs.HandOver.{first_awaited, none_awaited, dones_more, outcomes_are}
 use Rattle.nr_world.proofs.OpenTickets.{less_open}
 use Rattle.nr_world.proofs.Standing.{replied_one}
 use Rattle.nr_world.proofs.Writes.{server_stays, one_more_mark}
+use Rattle.nr_world.specs.LinkStands.{line_ids}
+use Rattle.nr_world.proofs.SettledCalls.{done_settles, tracks_less, lines_without}
+use Rattle.nr_world.proofs.GivenLines.{call_taken}
+use Rattle.nr_world.proofs.Requesters.{asks_on}
+use Rattle.nr_link.specs.declared.end.End.TheVariants as ends
+use Rattle.nr_reduce.specs.declared.mark.Mark.TheVariants as marks
 
 -- ---- One of the awaited lines
 
@@ -56,11 +59,11 @@ parts_at (c ∷ lines) zero d within = refl
 parts_at (c ∷ lines) (suc at) d within = ap (λ (ls : List AwaitedLine). c ∷ ls) (parts_at lines at d (omega (arith, within)))
 
 abbrev differs_from : ℕ → AwaitedLine → Bool
-differs_from xid line = not (eqb line.xid xid)
+differs_from xid line = not (eqb xid line.xid)
 
 all_differ : (xid : ℕ) (lines : List AwaitedLine) → AllByRecursion (λ (other : AwaitedLine). other.xid ≢ xid) lines → filter (differs_from xid) lines ≡ lines
 all_differ xid [] all = refl
-all_differ xid (line ∷ lines) all = λ i. cond (not (ne_eqb line.xid xid all.0 i)) (line ∷ all_differ xid lines all.1 i) (all_differ xid lines all.1 i)
+all_differ xid (line ∷ lines) all = λ i. cond (not (ne_eqb xid line.xid (λ e. all.0 (sym e)) i)) (line ∷ all_differ xid lines all.1 i) (all_differ xid lines all.1 i)
 
 left_out : (lines : List AwaitedLine) (at : ℕ) (d : AwaitedLine) → at < length lines → LinesApart lines → filter (differs_from (get_or lines at d).xid) lines ≡ remove lines at
 left_out [] at d within apart = absurd (omega (arith, within))
@@ -69,7 +72,7 @@ left_out (line ∷ lines) zero d within apart =
 left_out (line ∷ lines) (suc at) d within apart =
     let inside : at < length lines = omega (arith, within) in
     let other : line.xid ≢ (get_or lines at d).xid = λ e. line_at (λ (other : AwaitedLine). other.xid ≢ line.xid) lines at d apart.0 inside (sym e) in
-    ap (λ (b : Bool). cond (not b) (line ∷ filter (differs_from (get_or lines at d).xid) lines) (filter (differs_from (get_or lines at d).xid) lines)) (ne_eqb line.xid (get_or lines at d).xid other)
+    ap (λ (b : Bool). cond (not b) (line ∷ filter (differs_from (get_or lines at d).xid) lines) (filter (differs_from (get_or lines at d).xid) lines)) (ne_eqb (get_or lines at d).xid line.xid (λ e. other (sym e)))
     ∙ ap (λ (ls : List AwaitedLine). line ∷ ls) (left_out lines at d inside apart.1)
 
 -- ---- The client
@@ -97,47 +100,45 @@ forget_none h xid x none = find_less (λ (a : AnsweredCall). eqb a.xid x) (λ (a
 -- ---- An outcome is handed over
 
 -- the link with another client, which awaits these calls
-abbrev pub handed : DrillLinkState → RequesterSide → List AwaitedLine → DrillLinkState
-handed v client awaited = record { number = v.number; client = client; server = v.server; pipes = v.pipes; is_dropped = v.is_dropped; lines = v.lines; awaited = awaited }
+abbrev pub handed : DrillLinkState → RequesterSide → List AwaitedLine → List AcceptedCall → DrillLinkState
+handed v client awaited calls = record v { client = client; awaited = awaited; calls = calls }
 
 done_is : (s : Setting) (link : ℕ) (d : Drill) (c : CompletedCall) (rest : List CompletedCall) → outcomes_due (s.opened link) link d.marks ≡ c ∷ rest → after_done s link d ≡ with_mark (marks.Done link c.xid c.outcome) d
 unfolding after_done
 done_is s link d c rest e = ap (λ (cs : List CompletedCall). after_handing link (slice_get cs 0) d) e
 
-pub hands_at : (v : DrillLinkState) (client : RequesterSide) (at : ℕ) (l : AwaitedLine) (xid : ℕ) (outcome : Outcome) (run run2 : List Mark) → at < length v.awaited → LinesApart v.awaited → xid ≡ (get_or v.awaited at l).xid →
-    TakesOutcome v.client xid outcome client → run2 ≡ run ++ marks.Done v.number xid outcome ∷ [] → HandsAt at v (handed v client (remove v.awaited at)) run run2
-hands_at v client at l xid outcome run run2 within apart own t more = record {
+pub hands_at : (v : DrillLinkState) (client : RequesterSide) (at : ℕ) (l : AwaitedLine) (xid : ℕ) (outcome : Outcome) (fewer : List AcceptedCall) (run run2 : List Mark) → at < length v.awaited → LinesApart v.awaited → xid ≡ (get_or v.awaited at l).xid → fewer ≡ calls_without xid v.calls → CallsApart v.client.state →
+    TakesOutcome v.client xid outcome client → run2 ≡ run ++ marks.Done v.number xid outcome ∷ [] → HandsAt at v (handed v client (remove v.awaited at) fewer) run run2
+hands_at v client at l xid outcome fewer run run2 within apart own less none_both t more = record {
   goes = goes;
   left = refl;
   none = λ x none. subst (λ (h : RequesterSide). found_answer x h.state ≡ None) (sym t.state) (forget_none v.client xid x none);
 }
   where
-    goes : HaveNoOutcome v.client.state (take at v.awaited) → Goes after_done v (handed v client (remove v.awaited at)) run run2
+    goes : HaveNoOutcome v.client.state (take at v.awaited) → Goes after_done v (handed v client (remove v.awaited at) fewer) run run2
     goes none s link d stands_at =
         let h = stands_at.stands in
         let o = s.opened link in
         let a : AnsweredCall = record { xid = xid; call = t.call; buffers = t.buffers; outcome = outcome } in
         let line : AwaitedLine = get_or v.awaited at l in
         let mark : Mark = marks.Done link xid outcome in
-        let due = first_awaited o link v.client d.marks (take at v.awaited) (drop (suc at) v.awaited) line a h.client (parts_at v.awaited at l within ∙ h.awaited) none
+        let g = done_settles s link xid outcome in
+        let due = first_awaited s o link v.client d.marks (take at v.awaited) (drop (suc at) v.awaited) line v.calls a h.client none_both h.tracks.calls_are
+        (h.tracks.same_ids ∙ ap (λ (ls : List AwaitedLine). line_ids ls) (sym (parts_at v.awaited at l within))) none
         (subst (λ (x : ℕ). found_answer x v.client.state ≡ Some a) own t.came) in
-        subst (λ (x : Drill). StandsAt s link x (handed v client (remove v.awaited at)) run2) (sym (done_is s link d (completed_of a) due.0 due.1)) (record {
+        subst (λ (x : Drill). StandsAt s link x (handed v client (remove v.awaited at) fewer) run2) (sym (done_is s link d (completed_of a) due.0 due.1)) (record {
           stands = record {
             number = h.number;
-            firsts = h.firsts;
             first = h.first;
             room = h.room;
             pipes = h.pipes;
             dropped = h.dropped ∙ sym (same_dropped link d.marks mark refl);
-            client = t.stands o link d.marks h.client;
-            server = server_stays o link d.marks v.server mark (of_other_side (eqb link link)) h.server_memory h.server;
+            client = asks_on v.client client (λ (n : ℕ). marks.Done n xid outcome) t.stands o link d.marks h.client;
+            server = server_stays o link d.marks v.server mark g.others h.server_memory h.server;
             client_memory = end_kept v.client client xid t.state h.client_memory;
             server_memory = h.server_memory;
-            lines = h.lines ∙ ap length (sym (answers_same link d.marks mark refl));
-            awaited = sym (left_out v.awaited at l within apart)
-                ∙ (λ i. filter (differs_from (sym own i)) (h.awaited i))
-                ∙ sym (awaited_done link d.marks xid outcome);
-            own = own_one s link d.marks mark refl h.own;
+            tracks = tracks_less s link xid d.marks mark v.lines v.awaited (remove v.awaited at) v.calls fewer v.waiting g
+                (sym (left_out v.awaited at l within apart) ∙ ap (λ (x : ℕ). lines_without x v.awaited) (sym own)) less h.tracks;
           };
           marks = one_more_mark v.number link (λ (n : ℕ). marks.Done n xid outcome) run run2 d.marks h.number stands_at.marks more;
           replies = subst RepliedInBytes (sym more) (replied_one run (marks.Done v.number xid outcome) (λ before. tt) stands_at.replies);
@@ -187,7 +188,7 @@ all_handed at before after run run2 le h s link d stands =
     let last = h.goes s link d stands in
     let none : HaveNoOutcome after.client.state after.awaited = subst (λ (lines : List AwaitedLine). HaveNoOutcome after.client.state lines) (all_taken after.awaited at le) h.none in
     subst (λ (x : Drill). StandsAt s link x after run2)
-    (sym (outcomes_are s link h.n d (none_awaited (s.opened link) link after.client (after_dones s link h.n d).marks after.awaited last.stands.client last.stands.awaited none))) last
+    (sym (outcomes_are s link h.n d (none_awaited (s.opened link) link after.client (after_dones s link h.n d).marks after.awaited after.calls last.stands.client last.stands.tracks.calls_are last.stands.tracks.same_ids none))) last
 
 -- ---- As the code keeps them
 
@@ -208,27 +209,31 @@ view_less (c ∷ calls) (suc at) within = ap (λ (lines : List AwaitedLine). lin
 pub within_view : (calls : List AwaitedCall) (at : ℕ) → at < length (map line_view calls) → at < length calls
 within_view calls at within = subst (λ (n : ℕ). at < n) (view_length calls) within
 
-pub hands_call : (v : DrillLinkState) (calls : List AwaitedCall) (client : RequesterSide) (at : ℕ) (call : AwaitedCall) (outcome : Outcome) (run run2 : List Mark) → v.awaited ≡ map line_view calls → at < length calls → AreApart calls →
-    TakesOutcome v.client (get_or calls at call).ticket outcome client → run2 ≡ run ++ marks.Done v.number (get_or calls at call).ticket outcome ∷ [] → HandsAt at v (handed v client (map line_view (remove calls at))) run run2
-hands_call v calls client at call outcome run run2 is within apart t more =
+pub hands_call : (v : DrillLinkState) (calls : List AwaitedCall) (client : RequesterSide) (at : ℕ) (call : AwaitedCall) (outcome : Outcome) (run run2 : List Mark) → v.awaited ≡ map line_view calls → v.calls ≡ map call_view calls → at < length calls → AreApart calls → CallsApart v.client.state →
+    TakesOutcome v.client (get_or calls at call).ticket outcome client → run2 ≡ run ++ marks.Done v.number (get_or calls at call).ticket outcome ∷ [] →
+    HandsAt at v (handed v client (map line_view (remove calls at)) (map call_view (remove calls at))) run run2
+hands_call v calls client at call outcome run run2 is calls_are within apart none_both t more =
     let inside : at < length v.awaited = subst (λ (n : ℕ). at < n) (sym (ap (λ (lines : List AwaitedLine). length lines) is ∙ view_length calls)) within in
     let own : (get_or calls at call).ticket ≡ (get_or v.awaited at (line_view call)).xid = sym (ap (λ (lines : List AwaitedLine). (get_or lines at (line_view call)).xid) is ∙ view_at calls at call) in
     let left : remove v.awaited at ≡ map line_view (remove calls at) = ap (λ (lines : List AwaitedLine). remove lines at) is ∙ view_less calls at within in
     let lines : LinesApart v.awaited = subst LinesApart (sym is) (lines_apart calls apart) in
-    subst (λ (ls : List AwaitedLine). HandsAt at v (handed v client ls) run run2) left (hands_at v client at (line_view call) (get_or calls at call).ticket outcome run run2 inside lines own t more)
+    let fewer : map call_view (remove calls at) ≡ calls_without (get_or calls at call).ticket v.calls =
+    call_taken calls at call within apart ∙ ap (λ (cs : List AcceptedCall). calls_without (get_or calls at call).ticket cs) (sym calls_are) in
+    subst (λ (ls : List AwaitedLine). HandsAt at v (handed v client ls (map call_view (remove calls at))) run run2) left
+    (hands_at v client at (line_view call) (get_or calls at call).ticket outcome (map call_view (remove calls at)) run run2 inside lines own fewer none_both t more)
 
 pub from_hands : (at : ℕ) (before h after : DrillLinkState) (run run2 : List Mark) → before ≡ h → HandsAt at before after run run2 → HandsAt at h after run run2
 from_hands at before h after run run2 is hands = subst (λ (x : DrillLinkState). HandsAt at x after run run2) is hands
 
 -- what the code has of it: the call at a place, taken out, whose xid was read
-pub completes : (v : DrillLinkState) (items left : List AwaitedCall) (call : AwaitedCall) (client : RequesterSide) (at xid : ℕ) (outcome : Outcome) (run run2 : List Mark) → v.awaited ≡ map line_view items → at < length items → AreApart items →
-    call ≡ get_or items at call → left ≡ remove items at → xid ≡ call.ticket → TakesOutcome v.client call.ticket outcome client → run2 ≡ run ++ marks.Done v.number xid outcome ∷ [] → HandsAt at v (handed v client (map line_view left)) run run2
-completes v items left call client at xid outcome run run2 is within apart value less own t more =
+pub completes : (v : DrillLinkState) (items left : List AwaitedCall) (call : AwaitedCall) (client : RequesterSide) (at xid : ℕ) (outcome : Outcome) (run run2 : List Mark) → v.awaited ≡ map line_view items → v.calls ≡ map call_view items → at < length items → AreApart items → CallsApart v.client.state →
+    call ≡ get_or items at call → left ≡ remove items at → xid ≡ call.ticket → TakesOutcome v.client call.ticket outcome client → run2 ≡ run ++ marks.Done v.number xid outcome ∷ [] → HandsAt at v (handed v client (map line_view left) (map call_view left)) run run2
+completes v items left call client at xid outcome run run2 is calls_are within apart none_both value less own t more =
     let same : call.ticket ≡ (get_or items at call).ticket = ap (λ (c : AwaitedCall). c.ticket) value in
-    let one : HandsAt at v (handed v client (map line_view (remove items at))) run run2 =
-    hands_call v items client at call outcome run run2 is within apart (subst (λ (x : ℕ). TakesOutcome v.client x outcome client) same t)
+    let one : HandsAt at v (handed v client (map line_view (remove items at)) (map call_view (remove items at))) run run2 =
+    hands_call v items client at call outcome run run2 is calls_are within apart none_both (subst (λ (x : ℕ). TakesOutcome v.client x outcome client) same t)
     (more ∙ ap (λ (x : ℕ). run ++ marks.Done v.number x outcome ∷ []) (own ∙ same)) in
-    subst (λ (ls : List AwaitedCall). HandsAt at v (handed v client (map line_view ls)) run run2) (sym less) one
+    subst (λ (ls : List AwaitedCall). HandsAt at v (handed v client (map line_view ls) (map call_view ls)) run run2) (sym less) one
 
 pub came_view : (r : RequesterState) (items : List AwaitedCall) (at : ℕ) (call : AwaitedCall) → call ≡ get_or items at call → ((line : AwaitedLine) → is_some (found_answer (get_or (map line_view items) at line).xid r) ≡ true) → is_some (found_answer call.ticket r) ≡ true
 came_view r items at call value came =

@@ -1,7 +1,6 @@
 pub mod OpenTickets
 pub mod OpenLines
 pub mod CallLines
-pub mod Settled
 pub mod Ends
 pub mod Standing
 pub mod Writes
@@ -15,8 +14,6 @@ pub mod Reading
 pub mod Apart
 pub mod Dropping
 pub mod Granting
-pub mod QuietSteps
-pub mod PlainAt
 pub mod Executions
 pub mod ReadyCalls
 pub mod LinkOpening
@@ -33,4 +30,18 @@ pub mod LineSteps
 pub mod OpenLinks
 pub mod Reporting
 pub mod Scripts
-pub mod Progress
+pub mod DrillServers
+pub mod EarlierCalls
+pub mod JournalSteps
+pub mod Requesters
+pub mod SettledCalls
+pub mod SubmittedCalls
+pub mod WaitingCalls
+pub mod BeginsLinks
+pub mod FreshLinks
+pub mod NextLinks
+pub mod RejoinSteps
+pub mod Answering
+pub mod NotedCalls
+pub mod WaitingAnswers
+pub mod KeptDue

@@ -1,7 +1,8 @@
 -- What the code hands to the lemmas of a step.
 use Rattle.std.specs.Prelude.{◌↔◌, Result, Ok, Err, IfOk, IsTrue}
-use Rattle.std.proofs.Common.{◌≡◌, ◌≢◌, ℕ, ◌≤◌, Bool, true, false, List, [], ◌∷◌, ◌++◌, length, map, take, None, Some, refl, ap, sym, subst, ◌∙◌}
+use Rattle.std.proofs.Common.{◌≡◌, ◌≢◌, ℕ, ◌≤◌, Bool, true, false, List, [], ◌∷◌, ◌++◌, length, map, take, None, Some, refl, ap, sym, subst, ◌∙◌, cond, ◌⊎◌, inl, inr}
 use Rattle.std.proofs.Math.Seq.{take-length}
+use Rattle.std.specs.Io.KnownBytes.{Appends}
 use Rattle.nr_wire.specs.declared.hello.Side.{Side}
 use Rattle.nr_wire.specs.declared.hello.Side.TheVariants.{Initiator, Responder}
 use Rattle.nr_link.specs.declared.agreement.SideTerms.{SideTerms}
@@ -9,11 +10,10 @@ use Rattle.nr_link.specs.Agreement.{terms_with}
 use Rattle.nr_reduce.specs.Opening.{ClientOpened, ServerOpened}
 use Rattle.nr_reduce.specs.declared.mark.LinkParameters.{LinkParameters}
 use Rattle.nr_reduce.specs.declared.mark.Mark.{Mark}
-use Rattle.nr_reduce.specs.declared.mark.Mark.TheVariants as marks
 use Rattle.nr_reduce.specs.History.{is_dropped}
-use Rattle.nr_requester.specs.RequesterState.{RequesterSide, RequesterState}
-use Rattle.nr_requester.specs.Standing.{RequesterRepresents}
-use Rattle.nr_requester.specs.AfterCalls.{opened_as}
+use Rattle.nr_requester.specs.RequesterState.{RequesterSide, RequesterState, queue_of}
+use Rattle.nr_requester.specs.AfterCalls.{after_drain, opened_as, numbered_terms}
+use Rattle.nr_requester.specs.ReopenedLinks.{KeepsOn}
 use Rattle.nr_responder.specs.ResponderState.{ResponderSide, may_write, end_of}
 use Rattle.nr_responder.specs.Draining.{Drains}
 use Rattle.nr_responder.specs.Standing.{ResponderRepresents}
@@ -28,11 +28,15 @@ use Rattle.nr_world.specs.Transits.{TransitState}
 use Rattle.nr_world.specs.OpenTickets.{AreOpen}
 use Rattle.nr_world.specs.Steps.{Goes, ClientWrites, ServerWrites, IsFresh}
 use Rattle.nr_texts.specs.declared.opening.Opening.{Opening}
-use Rattle.nr_world.specs.Views.{line_view, link_view}
+use Rattle.nr_world.specs.Views.{line_view, link_view, call_view, held_view}
 use Rattle.nr_world.proofs.OpenTickets.{none_open, kept_open}
 use Rattle.nr_world.proofs.Standing.{with_ends, from_view}
 use Rattle.nr_world.proofs.Writes.{up_none, up_some, down_none, down_some}
 use Rattle.nr_world.proofs.Dropping.{dropped_link, drops, raw_put}
+use Rattle.nr_requester.specs.Standing.{RequesterRepresents}
+use Rattle.nr_drill.specs.Follows.{client_terms}
+use Rattle.nr_world.specs.declared.awaited.HeldCall.{HeldCall}
+use Rattle.nr_reduce.specs.declared.mark.Mark.TheVariants as marks
 
 -- what holds of the value of an Ok
 pub if_ok : {T E : Type 0} (r : Result T E) (P Q : T → Type 0) → ((x : T) → P x → Q x) → IfOk r P → IfOk r Q
@@ -66,6 +70,17 @@ server_writes before after first out bytes n d all none is =
       stands = λ opened link run h. subst (λ (xs : List ℕ). ResponderRepresents opened link (run ++ marks.Wrote link Responder xs ∷ []) after) (sym taken) (d.stands opened link run h);
     }
 
+pub client_writes : (before after : RequesterSide) (first out bytes : List ℕ) (n : ℕ) → Appends (Some first) (Some out) (take n (queue_of before.state)) → after ≡ after_drain n before → n ≡ length (queue_of before.state) →
+    KeepsOn before (λ link. marks.Wrote link Initiator (take n (queue_of before.state))) after → first ≡ [] → bytes ≡ out → ClientWrites before after bytes
+client_writes before after first out bytes n appends state all keeps none is =
+    let taken : bytes ≡ take n (queue_of before.state) = is ∙ appends ∙ ap (λ (xs : List ℕ). xs ++ take n (queue_of before.state)) none in
+    record {
+      n = n;
+      state = state;
+      all = taken ∙ ap (λ (k : ℕ). take k (queue_of before.state)) all ∙ take-length (queue_of before.state);
+      stands = subst (λ (xs : List ℕ). KeepsOn before (λ link. marks.Wrote link Initiator xs) after) (sym taken) keeps;
+    }
+
 pub wrote_no_bytes_up : (v v0 : DrillLinkState) (client : RequesterSide) (bytes : List ℕ) (run : List Mark) → v ≡ v0 → ClientWrites v.client client bytes → bytes ≡ [] →
     Goes (λ s link. after_all_output s link Initiator) v0 (with_ends v client v.server v.pipes) run run
 wrote_no_bytes_up v v0 client bytes run is w none = from_view (λ s link. after_all_output s link Initiator) v v0 (with_ends v client v.server v.pipes) run run is (up_none v client bytes run w none)
@@ -91,10 +106,10 @@ wrote_bytes_down v v0 server bytes given down run run2 is w some all put more =
 -- ---- A link is dropped, and bytes are put into its pipes
 
 pub drops_to : (v v0 : DrillLinkState) (up down : TransitState) (run run2 : List Mark) → v ≡ v0 → up.waiting ≡ [] → down.waiting ≡ [] → run2 ≡ run ++ marks.Drop v.number ∷ [] →
-    Goes (λ s link. after_drop link) v0 (record { number = v.number; client = v.client; server = v.server; pipes = record { up = up.waiting; down = down.waiting }; is_dropped = true; lines = v.lines; awaited = v.awaited }) run run2
+    Goes (λ s link. after_drop link) v0 (record v { pipes = record { up = up.waiting; down = down.waiting }; is_dropped = true }) run run2
 drops_to v v0 up down run run2 is no_up no_down more =
-    let to : dropped_link v ≡ record { number = v.number; client = v.client; server = v.server; pipes = record { up = up.waiting; down = down.waiting }; is_dropped = true; lines = v.lines; awaited = v.awaited } =
-    (λ i. record { number = v.number; client = v.client; server = v.server; pipes = record { up = sym no_up i; down = sym no_down i }; is_dropped = true; lines = v.lines; awaited = v.awaited }) in
+    let to : dropped_link v ≡ record v { pipes = record { up = up.waiting; down = down.waiting }; is_dropped = true } =
+    (λ i. record v { pipes = record { up = sym no_up i; down = sym no_down i }; is_dropped = true }) in
     subst (λ (x : DrillLinkState). Goes (λ s link. after_drop link) v0 x run run2) to
     (from_view (λ s link. after_drop link) v v0 (dropped_link v) run run2 is (drops v run run2 more))
 
@@ -126,16 +141,33 @@ none_are_open r calls none = subst (λ (cs : List AwaitedCall). AreOpen r cs) (s
 abbrev empty_pipe : TransitState
 empty_pipe = record { waiting = []; kept = 0 }
 
-pub fresh_link : (number : ℕ) (opening : Opening) (client : RequesterSide) (server : ResponderSide) (up down : TransitState) (calls : List AwaitedCall) → client ≡ opened_as 1 1 opening.credits (terms_with opening.client_units opening.invalidates) client.staging → up ≡ empty_pipe → down ≡ empty_pipe → calls ≡ [] →
-    ((opened : LinkParameters) (l : ℕ) → opened.first_xid ≡ 1 → opened.first_stag ≡ 1 → ClientOpened opened opening.credits (terms_with opening.client_units opening.invalidates) → RequesterRepresents opened l client []) → end_of server ≡ None →
-    ((opened : LinkParameters) (l : ℕ) → ServerOpened opened opening.credits opening.credits (terms_with opening.server_units opening.invalidates) → ResponderRepresents opened l [] server) → IsFresh number opening (link_view number client server up down false 0 calls)
-fresh_link number opening client server up down calls opened no_up no_down none asks live serves = record {
+-- the terms of the first link of a client, with a number of its own and without
+pub numbered_client : (opening : Opening) (link : ℕ) → opening.numbered ≡ true → numbered_terms link opening.client_units opening.invalidates ≡ client_terms opening link
+numbered_client opening link numbered = λ i. record { units = opening.client_units; number = cond (sym numbered i) link 0; invalidates = opening.invalidates }
+
+pub unnumbered_client : (opening : Opening) (link : ℕ) → (opening.numbered ≡ false) ⊎ (link ≡ 0) → terms_with opening.client_units opening.invalidates ≡ client_terms opening link
+unnumbered_client opening link (inl none) = λ i. record { units = opening.client_units; number = cond (sym none i) link 0; invalidates = opening.invalidates }
+unnumbered_client opening link (inr zero_link) = λ i. record { units = opening.client_units; number = none i; invalidates = opening.invalidates }
+  where
+    both : (b : Bool) → 0 ≡ cond b link 0
+    both true = sym zero_link
+    both false = refl
+
+    none : 0 ≡ cond opening.numbered link 0
+    none = both opening.numbered
+
+pub fresh_link : (number : ℕ) (opening : Opening) (client : RequesterSide) (server : ResponderSide) (up down : TransitState) (calls : List AwaitedCall) (held : List HeldCall) → client.state.side.ended ≡ None → up ≡ empty_pipe → down ≡ empty_pipe → calls ≡ [] → held ≡ [] →
+    ((opened : LinkParameters) (l : ℕ) → opened.first_xid ≡ 1 → opened.first_stag ≡ 1 → ClientOpened opened opening.credits (client_terms opening number) → RequesterRepresents opened l client []) → end_of server ≡ None →
+    ((opened : LinkParameters) (l : ℕ) → ServerOpened opened opening.credits opening.credits (terms_with opening.server_units opening.invalidates) → ResponderRepresents opened l [] server) → IsFresh number opening (link_view number client server up down false 0 calls held)
+fresh_link number opening client server up down calls held asks_live no_up no_down none none_held asks live serves = record {
   number = refl;
   pipes = (λ i. record { up = (no_up i).waiting; down = (no_down i).waiting });
   stands = refl;
   lines = refl;
   awaited = ap (λ (cs : List AwaitedCall). map line_view cs) none;
-  client_live = opened_live client opening.credits (terms_with opening.client_units opening.invalidates) opened;
+  calls = ap (λ (cs : List AwaitedCall). map call_view cs) none;
+  waiting = ap (λ (cs : List HeldCall). map held_view cs) none_held;
+  client_live = asks_live;
   server_live = live;
   client = asks;
   server = serves;

@@ -18,7 +18,7 @@ use Rattle.nr_world.specs.LinkStands.{LinkStands}
 
 pub client_end_is : (s : Setting) (link : ℕ) (d : Drill) (v : DrillLinkState) → LinkStands s link d v → v.client.state.side.ended ≡ end_of_side (s.opened link) link Initiator d.marks
 unfolding end_of_side
-client_end_is s link d v h = h.client.keeps.kept.keeps.ended
+client_end_is s link d v h = h.client.1.keeps.kept.keeps.ended
 
 server_kept_end : (o : LinkParameters) (link : ℕ) (run : List Mark) (v : ResponderSide) (h : RepresentsServer o link run v) → KeepsEnd o h.end h.input v → end_of v ≡ h.end.ended
 server_kept_end o link run v h (inl live) = live.1.link.live ∙ sym live.0

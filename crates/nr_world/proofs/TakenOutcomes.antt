@@ -5,12 +5,12 @@ use Rattle.nr_requester.specs.declared.answer.AnsweredCall.{AnsweredCall}
 use Rattle.nr_requester.specs.declared.taking.Done.{Done}
 use Rattle.nr_requester.specs.RequesterState.{RequesterSide}
 use Rattle.nr_requester.specs.OpenCalls.{found_answer}
-use Rattle.nr_requester.specs.declared.taking.Take.TheVariants as takes
-use Rattle.nr_requester.specs.Takes.{IsTaken, TakeStands}
+use Rattle.nr_requester.specs.Takes.{IsTaken, TakeKeeps}
 use Rattle.nr_world.specs.private.HandsOver.{TakesOutcome}
+use Rattle.nr_requester.specs.declared.taking.Take.TheVariants as takes
 
-pub took : (before after : RequesterSide) (xid : ℕ) (done : Done) → IsTaken before xid (takes.Done done) after → TakeStands before xid (takes.Done done) after → TakesOutcome before xid done.outcome after
-took before after xid done t s = record { call = done.call; buffers = done.buffers; came = t.0; state = t.1.1; stands = s.0 }
+pub took : (before after : RequesterSide) (xid : ℕ) (done : Done) → IsTaken before xid (takes.Done done) after → TakeKeeps before xid (takes.Done done) after → TakesOutcome before xid done.outcome after
+took before after xid done t s = record { call = done.call; buffers = done.buffers; came = t.0; state = t.1.1; stands = s }
 
 pub none_comes : (before : RequesterSide) (xid : ℕ) → is_some (found_answer xid before.state) ≡ true → found_answer xid before.state ≡ None → ⊥
 none_comes before xid came none = absurd (let wrong : true ≡ false = sym came ∙ ap (λ (o : Option AnsweredCall). is_some o) none in cc)

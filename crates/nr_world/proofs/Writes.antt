@@ -2,17 +2,13 @@
 use Rattle.std.specs.Prelude.{◌&&◌}
 use Rattle.std.proofs.Common.{◌≡◌, ◌≢◌, ℕ, eqb, Bool, false, List, [], ◌∷◌, ◌++◌, length, Some, inl, refl, ap, sym, subst, ◌∙◌}
 use Rattle.nr_wire.specs.declared.hello.Side.TheVariants.{Initiator, Responder}
-use Rattle.nr_link.specs.declared.end.End.TheVariants as ends
 use Rattle.nr_reduce.specs.declared.mark.LinkParameters.{LinkParameters}
 use Rattle.nr_reduce.specs.declared.mark.Mark.{Mark}
-use Rattle.nr_reduce.specs.declared.mark.Mark.TheVariants as marks
 use Rattle.nr_reduce.specs.Events.{RunEvent, if_own}
 use Rattle.nr_reduce.specs.Events.RunEvent.{QueueWritten}
 use Rattle.nr_reduce.proofs.Standing.{itself}
 use Rattle.nr_requester.specs.RequesterState.{RequesterSide, queue_of}
 use Rattle.nr_requester.specs.AfterCalls.{after_drain}
-use Rattle.nr_requester.specs.Standing.{RequesterRepresents}
-use Rattle.nr_requester.proofs.AllMarks.{others_leave_it}
 use Rattle.nr_responder.specs.ResponderState.{ResponderSide, queue, may_write, end_of, after_drain as after_server_drain}
 use Rattle.nr_responder.specs.Standing.{RepresentsServer}
 use Rattle.nr_reduce.proofs.Unconcerned.{of_other_side}
@@ -22,10 +18,13 @@ use Rattle.nr_drill.specs.Drill.{Setting, Drill, Pipes, pipes_of, with_pipes, wi
 use Rattle.nr_drill.specs.InBytes.{RepliedInBytes}
 use Rattle.nr_drill.proofs.Lawful.{left_is, down_written}
 use Rattle.nr_world.specs.DrillLinkState.{DrillLinkState}
-use Rattle.nr_world.specs.LinkStands.{LinkStands}
+use Rattle.nr_world.specs.LinkStands.{LinkStands, StandsForClient}
 use Rattle.nr_world.specs.Steps.{Goes, StandsAt, ClientWrites, ServerWrites}
 use Rattle.nr_world.proofs.Ends.{requester_quiet, responder_quiet, represents_of}
 use Rattle.nr_world.proofs.Standing.{with_ends, IsPlain, EndsStand, other_pipes, plain_mark, replied_one}
+use Rattle.nr_world.proofs.Requesters.{others_leave, asks_on}
+use Rattle.nr_link.specs.declared.end.End.TheVariants as ends
+use Rattle.nr_reduce.specs.declared.mark.Mark.TheVariants as marks
 
 -- ---- Marks of the other side
 
@@ -41,7 +40,6 @@ pub other_ends : (s : Setting) (link : ℕ) (d : Drill) (v : DrillLinkState) (cl
     LinkStands s link d (with_ends v client server v.pipes)
 other_ends s link d v client server h e = record {
   number = h.number;
-  firsts = h.firsts;
   first = h.first;
   room = h.room;
   pipes = h.pipes;
@@ -50,9 +48,7 @@ other_ends s link d v client server h e = record {
   server = e.server;
   client_memory = e.client_memory;
   server_memory = e.server_memory;
-  lines = h.lines;
-  awaited = h.awaited;
-  own = h.own;
+  tracks = h.tracks;
 }
 
 -- ---- The client
@@ -65,14 +61,14 @@ end_after : (h h2 : RequesterSide) (bytes : List ℕ) → ClientWrites h h2 byte
 end_after h h2 bytes w some e = some (sym (ap (λ (x : RequesterSide). x.state.side.ended) w.state ∙ same_end w.n h) ∙ e)
 
 client_left : (s : Setting) (link : ℕ) (d : Drill) (v : DrillLinkState) → LinkStands s link d v → unwritten (s.opened link) link Initiator d.marks ≡ queue_of v.client.state
-client_left s link d v h = left_is (s.opened link) link Initiator d.marks (queue_of v.client.state) h.client.keeps.kept.output
+client_left s link d v h = left_is (s.opened link) link Initiator d.marks (queue_of v.client.state) h.client.1.keeps.kept.output
 
-client_same : (o : LinkParameters) (link : ℕ) (run : List Mark) (h h2 : RequesterSide) (bytes : List ℕ) → ClientWrites h h2 bytes → bytes ≡ [] → RequesterRepresents o link h run → RequesterRepresents o link h2 run
+client_same : (o : LinkParameters) (link : ℕ) (run : List Mark) (h h2 : RequesterSide) (bytes : List ℕ) → ClientWrites h h2 bytes → bytes ≡ [] → StandsForClient o link h run → StandsForClient o link h2 run
 client_same o link run h h2 bytes w none r =
-    let wrote : RequesterRepresents o link (after_drain w.n h) (run ++ marks.Wrote link Initiator [] ∷ []) =
-    subst (λ (x : RequesterSide). RequesterRepresents o link x (run ++ marks.Wrote link Initiator [] ∷ [])) w.state
-    (subst (λ (xs : List ℕ). RequesterRepresents o link h2 (run ++ marks.Wrote link Initiator xs ∷ [])) none (w.stands o link run r)) in
-    subst (λ (x : RequesterSide). RequesterRepresents o link x run) (sym w.state) (requester_quiet o link run h w.n (sym w.all ∙ none) r wrote)
+    let wrote : StandsForClient o link (after_drain w.n h) (run ++ marks.Wrote link Initiator [] ∷ []) =
+    subst (λ (x : RequesterSide). StandsForClient o link x (run ++ marks.Wrote link Initiator [] ∷ [])) w.state
+    (subst (λ (xs : List ℕ). StandsForClient o link h2 (run ++ marks.Wrote link Initiator xs ∷ [])) none (asks_on h h2 (λ (l : ℕ). marks.Wrote l Initiator bytes) w.stands o link run r)) in
+    subst (λ (x : RequesterSide). StandsForClient o link x run) (sym w.state) (requester_quiet o link run h w.n (sym w.all ∙ none) r wrote)
 
 pub up_none : (v : DrillLinkState) (client : RequesterSide) (bytes : List ℕ) (run : List Mark) → ClientWrites v.client client bytes → bytes ≡ [] →
     Goes (λ s link. after_all_output s link Initiator) v (with_ends v client v.server v.pipes) run run
@@ -91,7 +87,7 @@ up_none v client bytes run w none s link d at =
     })
 
 plain_wrote_up : (link : ℕ) (bytes : List ℕ) → IsPlain link (marks.Wrote link Initiator bytes)
-plain_wrote_up link bytes = record { drops = refl; answer = refl; kept = λ xid. refl; replied = λ before. tt }
+plain_wrote_up link bytes = record { drops = refl; answer = λ s. refl; settle = λ s xid. refl; accepts = refl; kept = λ xid. refl; replied = λ before. tt }
 
 -- the marks after one more of the link
 pub one_more_mark : (number link : ℕ) (of : ℕ → Mark) (run run2 all : List Mark) → number ≡ link → run ≡ all → run2 ≡ run ++ of number ∷ [] → run2 ≡ all ++ of link ∷ []
@@ -107,7 +103,7 @@ up_some v client (b ∷ bytes) pipes run run2 w some is more s link d at =
     let mark : Mark = marks.Wrote link Initiator all in
     let left : unwritten o link Initiator d.marks ≡ all = client_left s link d v h ∙ sym w.all in
     let e : EndsStand s link (d.marks ++ mark ∷ []) client v.server = record {
-      client = w.stands o link d.marks h.client;
+      client = asks_on v.client client (λ (l : ℕ). marks.Wrote l Initiator all) w.stands o link d.marks h.client;
       server = server_stays o link d.marks v.server mark (of_other_side (eqb link link)) h.server_memory h.server;
       client_memory = end_after v.client client all w h.client_memory;
       server_memory = h.server_memory;
@@ -157,7 +153,7 @@ down_none v server bytes run w none s link d at =
     })
 
 plain_wrote_down : (link : ℕ) (bytes : List ℕ) → IsPlain link (marks.Wrote link Responder bytes)
-plain_wrote_down link bytes = record { drops = refl; answer = refl; kept = λ xid. refl; replied = λ before. tt }
+plain_wrote_down link bytes = record { drops = refl; answer = λ s. refl; settle = λ s xid. refl; accepts = refl; kept = λ xid. refl; replied = λ before. tt }
 
 pub down_some : (v : DrillLinkState) (server : ResponderSide) (bytes : List ℕ) (pipes : Pipes) (run run2 : List Mark) → ServerWrites v.server server bytes → bytes ≢ [] → pipes ≡ appended Responder bytes v.pipes →
     run2 ≡ run ++ marks.Wrote v.number Responder bytes ∷ [] → Goes (λ s link. after_all_output s link Responder) v (with_ends v v.client server pipes) run run2
@@ -169,7 +165,7 @@ down_some v server (b ∷ bytes) pipes run run2 w some is more s link d at =
     let mark : Mark = marks.Wrote link Responder all in
     let left : unwritten o link Responder d.marks ≡ all = server_left s link d v h ∙ sym w.all in
     let e : EndsStand s link (d.marks ++ mark ∷ []) v.client server = record {
-      client = others_leave_it o link v.client d.marks mark h.client (not_own link (QueueWritten (length all) ∷ [])) (down_written link all) refl (λ xid. refl);
+      client = others_leave o link v.client d.marks mark h.client (not_own link (QueueWritten (length all) ∷ [])) (down_written link all) refl (λ xid. refl);
       server = represents_of o link (d.marks ++ mark ∷ []) server (server_end_after v.server server all w h.server_memory) (w.stands o link d.marks (inl h.server));
       client_memory = h.client_memory;
       server_memory = server_end_after v.server server all w h.server_memory;

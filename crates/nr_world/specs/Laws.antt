@@ -2,7 +2,7 @@
 use Rattle.std.specs.Prelude.{◌≡◌, ◌≢◌, ℕ, ◌≤◌, List, ◌++◌, length}
 use Rattle.std.specs.List.{AllByRecursion}
 use Rattle.nr_reduce.specs.declared.mark.Mark.{Mark}
-use Rattle.nr_drill.specs.Drill.{link_of, Setting, Drill, pipes_of}
+use Rattle.nr_drill.specs.Drill.{link_of, Setting, Drill, client_of, pipes_of}
 use Rattle.nr_world.specs.DrillLinkState.{DrillLinkState}
 use Rattle.nr_world.specs.LinkStands.{LinkStands}
 
@@ -14,6 +14,6 @@ pub record IsDoneOn (link : ℕ) (old new : Drill) : Type 0 where
   pub pipes : (other : ℕ) → 1 ≤ other → other ≢ link → pipes_of other new ≡ pipes_of other old
   pub room : length new.pipes ≡ length old.pipes
 
--- a link that stood for the drill before stands for the drill after
+-- a link of another client, which stood for the drill before, stands for the drill after
 abbrev pub OtherLinksStand : Type 0
-OtherLinksStand = (s : Setting) (link other : ℕ) (old new : Drill) (v : DrillLinkState) → other ≢ link → IsDoneOn other old new → LinkStands s link old v → LinkStands s link new v
+OtherLinksStand = (s : Setting) (link other : ℕ) (old new : Drill) (v : DrillLinkState) → client_of s other ≢ client_of s link → IsDoneOn other old new → LinkStands s link old v → LinkStands s link new v

@@ -1,6 +1,7 @@
 pub mod DrillLinkState
 pub mod LinkStands
 pub mod Transits
+pub mod DrillServers
 pub mod OpenTickets
 pub mod Steps
 pub mod Views

@@ -4,3 +4,4 @@ pub mod Opened
 pub mod Results
 pub mod Stands
 pub mod Within
+pub mod Working

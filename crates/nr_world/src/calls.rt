@@ -10,10 +10,10 @@ ghost use Rattle.nr_requester.specs.Answers.{answer_of};
 ghost use Rattle.nr_requester.specs.Fed.{fed_bytes};
 ghost use Rattle.nr_requester.specs.Buffers.{buffer_bytes, bytes_of_buffers};
 ghost use Rattle.nr_requester.specs.OpenCalls.{open_call, buffers_of, OpensTicket};
-ghost use Rattle.nr_requester.specs.Standing.{StandsOn};
+ghost use Rattle.nr_requester.specs.ReopenedLinks.{KeepsOn};
 ghost use Rattle.nr_drill.specs.Drill.{after_submit, after_forget, after_revoke};
-ghost use Rattle.nr_world.specs.OpenTickets.{LinesOpen, TakesLine, SubmitsLine, AnswersCall};
-ghost use Rattle.nr_world.specs.Views.{line_view};
+ghost use Rattle.nr_world.specs.OpenTickets.{AreApart, LinesOpen, TakesCall, TakesLine, SubmitsLine, AnswersCall};
+ghost use Rattle.nr_world.specs.Views.{call_view, line_view};
 ghost use Rattle.nr_world.specs.Steps.{Goes};
 
 use crate::awaited::AwaitedCall;
@@ -41,7 +41,8 @@ fn place_of(calls: &[AwaitedCall], index: usize) -> Option<usize>
 
 /// Takes out the ticket of a call line, if its call is awaited. Lines are numbered from 1.
 fn take_line(awaited: &mut Vec<AwaitedCall>, number: u32) -> Option<Ticket>
-    ensures { TakesLine (number - 1) result (map line_view awaited.old.items) (map line_view awaited.new.items) }
+    ensures lines { TakesLine (number - 1) result (map line_view awaited.old.items) (map line_view awaited.new.items) }
+    ensures calls { AreApart awaited.old.items → TakesCall result (map call_view awaited.old.items) (map call_view awaited.new.items) }
 {
     let Some(at) = place_of(awaited.as_slice(), number.saturating_sub(1) as usize) else {
         return None;
@@ -71,7 +72,7 @@ fn submit_copy(
     ensures accepted { IfOk result (λ xid. answer_of client.old.state call.now form.now ≡ submissions.Accepted xid) }
     ensures refused { IfErr result (λ e. e ≢ refusals.Memory → answer_of client.old.state call.now form.now ≡ submissions.Refused e) }
     ensures err { OnErr result (client.new ≡ client.old) }
-    ensures stands { IfOk result (λ xid. StandsOn client.old (λ link. marks.Submit link call.now form.now (submissions.Accepted xid)) client.new) }
+    ensures stands { IfOk result (λ xid. KeepsOn client.old (λ link. marks.Submit link call.now form.now (submissions.Accepted xid)) client.new) }
     ensures tickets { IfOk result (λ xid. OpensTicket xid call.now client.old.state client.new.state) }
     ensures fed { fed_bytes client.new ≡ fed_bytes client.old }
 {
@@ -101,20 +102,36 @@ fn submit_line(
     form: &Form,
 ) -> Result<Submission, Memory>
     requires { CanWriteCred call.now.cred }
-    ensures submits { IfOk result (λ answer. SubmitsLine call.now form.now index answer client.old client.new (map line_view awaited.old.items) (map line_view awaited.new.items)) }
+    ensures submits { IfOk result (λ answer. SubmitsLine call.now form.now index answer client.old client.new (map line_view awaited.old.items) (map line_view awaited.new.items) (map call_view awaited.old.items) (map call_view awaited.new.items)) }
     ensures tickets { LinesOpen client.old.state (map line_view awaited.old.items) → LinesOpen client.new.state (map line_view awaited.new.items) }
     ensures fed { fed_bytes client.new ≡ fed_bytes client.old }
 {
     if awaited.reserve(1).is_err() {
         return Err(Memory);
     }
+    let Ok(own_form) = copy_form(alloc, form) else {
+        return Err(Memory);
+    };
+    let Ok(own_call) = copy_call(alloc, call) else {
+        drop(own_form);
+        return Err(Memory);
+    };
     match submit_copy(alloc, client, call, form) {
         Ok(ticket) => {
             let xid = ticket.xid();
-            awaited.push_reserved(AwaitedCall { ticket, index });
+            awaited.push_reserved(AwaitedCall {
+                ticket,
+                index,
+                call: own_call,
+                form: own_form,
+            });
             Ok(Submission::Accepted { xid })
         }
-        Err(refused) => refusal(refused),
+        Err(refused) => {
+            drop(own_call);
+            drop(own_form);
+            refusal(refused)
+        }
     }
 }
 
@@ -153,7 +170,7 @@ fn revoke_call(alloc: Global, client: &mut Requester, ticket: Ticket) -> Result<
     requires { is_some (open_call ticket client.old.state) ≡ true }
     ensures bytes { IfOk result (λ bytes. bytes ≡ bytes_of_buffers (buffers_of ticket client.old.state)) }
     ensures state { OnOk result (client.new ≡ revoked client.old ticket) }
-    ensures stands { OnOk result (StandsOn client.old (λ link. marks.Revoke link ticket (bytes_of_buffers (buffers_of ticket client.old.state))) client.new) }
+    ensures stands { OnOk result (KeepsOn client.old (λ link. marks.Revoke link ticket (bytes_of_buffers (buffers_of ticket client.old.state))) client.new) }
     ensures others { (xid : ℕ) → xid ≢ ticket → open_call xid client.new.state ≡ open_call xid client.old.state }
     ensures fed { fed_bytes client.new ≡ fed_bytes client.old }
 {

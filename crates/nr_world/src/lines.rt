@@ -14,16 +14,18 @@ use nr_xdr::Memory;
 use std::alloc::Global;
 
 impl World {
-    /// Rounds, as long as something moves.
+    /// Rounds, as long as something moves. Each makes a mark, so memory runs out before their number does.
     fn drain(&mut self) -> Result<(), Memory>
         requires { CanMake lines.Drain self.old }
         ensures { OnOk result (MakesLine lines.Drain self.old self.new) }
     {
-        while !self.is_still() {
+        for _round in 0..u64::MAX {
+            if self.is_still() {
+                return Ok(());
+            }
             self.round()?;
-            self.marks.facts();
         }
-        Ok(())
+        Err(Memory)
     }
 
     fn cred(&mut self, alloc: Global, client: u32, cred: &Cred) -> Result<(), Memory>
@@ -65,11 +67,7 @@ impl World {
             Line::Forget { client, number } => self.forget(*client as usize, *number),
             Line::Revoke { client, number } => self.revoke(*client as usize, *number),
             Line::Drop { client } => self.drop_link(*client as usize),
-            // Clients have no numbers, so none begins another link.
-            Line::Rejoin { client } => {
-                let _ = client;
-                Ok(())
-            }
+            Line::Rejoin { client } => self.rejoin(*client as usize),
             Line::Grant { client, credits } => self.grant(*client as usize, *credits),
             Line::Raw {
                 client,

@@ -2,7 +2,7 @@
 
 ghost use Rattle.std.specs.Prelude.{◌≡◌, ◌≢◌, false, Err, OnOk};
 ghost use Rattle.nr_link.specs.declared.end.End.TheVariants as ends;
-ghost use Rattle.nr_drill.specs.Drill.{after_feeding_up, after_up, after_feeding_down, after_outcomes, after_down, after_all_up, after_all_down};
+ghost use Rattle.nr_drill.specs.Drill.{after_feeding_up, after_up, after_feeding_down, after_resends, after_outcomes, after_down, after_all_up, after_all_down};
 ghost use Rattle.nr_world.specs.Steps.{Goes};
 
 use crate::draining::add_mark;
@@ -68,10 +68,11 @@ impl DrillLink {
         }
     }
 
-    /// Feeds the client the next bytes that wait for it, at most `most`, if there are any.
+    /// Feeds the client the next bytes that wait for it, at most `most`, if there are any. It sends calls again, as the grant
+    /// allows.
     #[tactic(none)]
     fn feed_down(&mut self, marks: &mut MarkLog, most: usize) -> Result<(), Memory>
-        ensures { OnOk result (Goes (λ s link. after_feeding_down link most) self.old self.new marks.old marks.new) }
+        ensures { OnOk result (Goes (λ s link d. after_resends s link (after_feeding_down link most d)) self.old self.new marks.old marks.new) }
     {
         let piece = self.down.peek(most);
         if piece.is_empty() {
@@ -94,13 +95,16 @@ impl DrillLink {
             side: Side::Initiator,
             bytes,
         };
-        add_mark(marks, fed)
+        match add_mark(marks, fed) {
+            Ok(()) => self.note_resends(marks),
+            Err(memory) => Err(memory),
+        }
     }
 
     /// Feeds the client the next bytes that wait for it, at most `most`, and hands over the outcomes that are due.
     #[tactic(none)]
     fn feed_and_hand_over(&mut self, marks: &mut MarkLog, most: usize) -> Result<(), Memory>
-        ensures { OnOk result (Goes (λ s link d. after_outcomes s link (after_feeding_down link most d)) self.old self.new marks.old marks.new) }
+        ensures { OnOk result (Goes (λ s link d. after_outcomes s link (after_resends s link (after_feeding_down link most d))) self.old self.new marks.old marks.new) }
     {
         match self.feed_down(marks, most) {
             Ok(()) => self.hand_over(marks),

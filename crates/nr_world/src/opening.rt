@@ -1,11 +1,13 @@
 //! A drill opens: its server, and each link in turn.
 
-ghost use Rattle.std.specs.Prelude.{◌≡◌, ◌≤◌, [], false, replicate, IfOk, OnOk};
+ghost use Rattle.std.specs.Prelude.{◌≡◌, ◌≤◌, [], replicate, IfOk, OnOk};
 ghost use Rattle.nr_rpc.specs.declared.cred.Cred.TheVariants as credentials;
 ghost use Rattle.nr_texts.specs.Limits.{capacity_max};
-ghost use Rattle.nr_world.specs.private.Opened.{IsDrillServer, HasOpenLinks, IsStarted, OpensAll};
+ghost use Rattle.nr_texts.specs.declared.opening.Opening.{Opening};
+ghost use Rattle.nr_world.specs.private.Opened.{IsDrillServer, HasOpenLinks, IsStarted, OpensAll, OpensLink};
 
 use crate::link::DrillLink;
+use crate::server::DrillServer;
 use crate::world::World;
 use nr_marks::MarkLog;
 use nr_nfs_base::Verifier;
@@ -49,8 +51,7 @@ fn push_creds(creds: &mut Vec<Cred>, clients: u32) -> Result<(), Memory>
 
 impl World {
     fn start(alloc: Global, opening: Opening) -> Result<World, Memory>
-        requires capacity { opening.capacity ≤ capacity_max }
-        requires unnumbered { opening.numbered ≡ false }
+        requires { opening.capacity ≤ capacity_max }
         ensures { IfOk result (IsStarted opening) }
     {
         let mut creds = Vec::new(alloc);
@@ -58,10 +59,12 @@ impl World {
         match drill_server(alloc, opening) {
             Ok(server) => Ok(World {
                 links: Vec::new(alloc),
+                owners: Vec::new(alloc),
                 marks: MarkLog::new(alloc),
-                server,
+                server: DrillServer::new(alloc, server),
                 seconds: 0,
                 creds,
+                opening,
             }),
             Err(memory) => {
                 drop(creds);
@@ -70,24 +73,37 @@ impl World {
         }
     }
 
-    fn openings(&mut self, alloc: Global, opening: Opening) -> Result<(), Memory>
-        ensures { OnOk result (OpensAll opening self.old self.new) }
+    /// The first link of the next client opens.
+    fn push_link(&mut self, alloc: Global, client: u32) -> Result<(), Memory>
+        ensures { OnOk result (OpensLink client self.old self.new) }
     {
-        for at in 0..opening.clients {
-            let link = DrillLink::open(alloc, &mut self.marks, at + 1, opening)?;
-            self.links.push(link)?;
+        self.owners.push(client)?;
+        let link = DrillLink::open(alloc, &mut self.marks, client, self.opening)?;
+        match self.links.push(link) {
+            Ok(()) => Ok(()),
+            Err(failed) => {
+                drop(failed);
+                Err(Memory)
+            }
+        }
+    }
+
+    fn openings(&mut self, alloc: Global, clients: u32) -> Result<(), Memory>
+        ensures { OnOk result ((opening : Opening) → opening.clients ≡ clients → OpensAll opening self.old self.new) }
+    {
+        for at in 0..clients {
+            self.push_link(alloc, at + 1)?;
         }
         Ok(())
     }
 
     /// The world of a drill whose links are open.
     pub(crate) fn open(alloc: Global, opening: Opening) -> Result<World, Memory>
-        requires capacity { opening.capacity ≤ capacity_max }
-        requires unnumbered { opening.numbered ≡ false }
+        requires { opening.capacity ≤ capacity_max }
         ensures { IfOk result (HasOpenLinks opening) }
     {
         let mut world = World::start(alloc, opening)?;
-        match world.openings(alloc, opening) {
+        match world.openings(alloc, opening.clients) {
             Ok(()) => Ok(world),
             Err(memory) => {
                 drop(world);

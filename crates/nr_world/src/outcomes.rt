@@ -48,6 +48,8 @@ impl DrillLink {
         requires came { (line : AwaitedLine) → is_some (found_answer (get_or self.old.awaited at line).xid self.old.client.state) ≡ true }
         ensures { OnOk result (HandsAt at self.old self.new marks.old marks.new) }
     {
+        // A call that waits to be sent again is outstanding, so it has no outcome.
+        self.client.facts();
         let AwaitedCall { ticket, .. } = self.awaited.remove(at);
         let xid = ticket.xid();
         let outcome = take_outcome(&mut self.client, ticket);

@@ -2,7 +2,6 @@
 
 ghost use Rattle.std.specs.Prelude.{◌≡◌, ◌≤◌, [], IfOk, OnOk, length};
 ghost use Rattle.nr_texts.specs.Limits.{clients_max};
-ghost use Rattle.nr_drill.specs.Drill.{links_of};
 ghost use Rattle.nr_drill.specs.DrillSetup.{GivesReport};
 ghost use Rattle.nr_world.specs.private.Results.{AreEndsOf, ReportsWorld};
 
@@ -13,7 +12,7 @@ use nr_xdr::Memory;
 use std::alloc::Global;
 
 impl World {
-    /// What each link came to, in order.
+    /// What the link that each client has now came to, in order.
     fn push_ends(&self, ends: &mut Vec<LinkEnds>) -> Result<(), Memory>
         requires { ends.old.items ≡ [] }
         ensures ends { OnOk result (AreEndsOf self.now ends.new.items) }
@@ -30,47 +29,21 @@ impl World {
         Ok(())
     }
 
-    /// The client of each link, in order: each client has one link, which has its number.
-    fn push_clients(&self, clients: &mut Vec<u32>) -> Result<(), Memory>
-        requires empty { clients.old.items ≡ [] }
-        requires few { length self.now.links.items ≤ clients_max }
-        ensures { OnOk result (clients.new.items ≡ links_of (length self.now.links.items)) }
-    {
-        for at in 0..self.links.len() {
-            clients.push(at as u32 + 1)?;
-        }
-        Ok(())
-    }
-
-    /// The client of each link, and what each came to, in order.
-    fn push_links(&self, clients: &mut Vec<u32>, ends: &mut Vec<LinkEnds>) -> Result<(), Memory>
-        requires clients { clients.old.items ≡ [] }
-        requires ends { ends.old.items ≡ [] }
-        requires few { length self.now.links.items ≤ clients_max }
-        ensures clients { OnOk result (clients.new.items ≡ links_of (length self.now.links.items)) }
-        ensures ends { OnOk result (AreEndsOf self.now ends.new.items) }
-        ensures len { OnOk result (length ends.new.items ≡ length self.now.links.items) }
-    {
-        self.push_clients(clients)?;
-        self.push_ends(ends)?;
-        Ok(())
-    }
-
     /// The report of the drill.
     fn report(self, alloc: Global) -> Result<Report, Memory>
         requires { length self.links.items ≤ clients_max }
         ensures { IfOk result (ReportsWorld self) }
     {
-        let mut clients = Vec::new(alloc);
         let mut ends = Vec::new(alloc);
-        match self.push_links(&mut clients, &mut ends) {
-            Ok(()) => report_of(alloc, self.marks, clients.as_slice(), ends.as_slice()),
+        match self.push_ends(&mut ends) {
+            Ok(()) => report_of(alloc, self.marks, self.owners.as_slice(), ends.as_slice()),
             Err(memory) => Err(memory),
         }
     }
 }
 
-/// Runs a script, and reports the drill. It fails if memory runs out, or if a mark would have 2^32 bytes or more.
+/// Runs a script, and reports the drill. It fails if memory runs out, if a mark would have 2^32 bytes or more, or if a client
+/// that rejoins has too few STags left.
 pub fn run_world(alloc: Global, script: &Script) -> Result<Report, Memory>
     ensures { IfOk result (λ report. GivesReport script.now report) }
 {

@@ -1,35 +1,86 @@
 //! Calls that are executed, and a round of a link.
 
-ghost use Rattle.std.specs.Prelude.{◌≡◌, None, false, OnOk};
-ghost use Rattle.nr_xdr.specs.Item.{IsBytes};
+ghost use Rattle.std.specs.Prelude.{◌≡◌, ◌≤◌, length, None, false, OnOk};
+ghost use Rattle.nr_plain.specs.ReplySizes.{any_reply_max};
 ghost use Rattle.nr_responder.specs.ResponderState.{end_of};
 ghost use Rattle.nr_responder.specs.Sound.{IsNext};
 ghost use Rattle.nr_drill.specs.Drill.{after_work, after_all_work, after_moves};
 ghost use Rattle.nr_world.specs.Steps.{Executes, Works};
+ghost use Rattle.nr_world.specs.private.Working.{AnswersWith, TellsOld};
 
 use crate::draining::add_mark;
 use crate::link::DrillLink;
+use crate::server::{DrillServer, Execution};
+use nr_link::End;
+use nr_link::constants::REASON_OLD;
 use nr_marks::MarkLog;
 use nr_outside::Moment;
-use nr_plain::{Reply, Server};
-use nr_reduce::Mark;
+use nr_reduce::{Mark, Told};
 use nr_responder::CallId;
 use nr_xdr::{Memory, Octets};
 
-/// That a slice is bytes, for the proofs. It does nothing.
-fn is_bytes(bytes: &[u8])
-    ensures { IsBytes bytes.now }
-{
-    let _ = bytes;
-}
-
 impl DrillLink {
-    /// Executes the next call at this second, and queues its answer.
+    /// Queues the answer to the next call, which was executed.
+    #[tactic(none)]
+    fn give_answer(
+        &mut self,
+        marks: &mut MarkLog,
+        call: CallId,
+        payload: Octets,
+        execution: Execution,
+    ) -> Result<(), Memory>
+        requires standing { self.old.is_dropped ≡ false }
+        requires live { end_of self.old.server ≡ None }
+        requires next { IsNext self.old.server call }
+        requires short { length execution.reply ≤ any_reply_max }
+        ensures { OnOk result (AnswersWith call payload execution self.old self.new marks.old marks.new) }
+    {
+        let xid = call.xid();
+        let Execution {
+            second,
+            place,
+            reply,
+        } = execution;
+        if self.server.answer(call, reply.as_slice()).is_err() {
+            return Err(Memory);
+        }
+        let executed = Mark::Execute {
+            link: self.number,
+            xid,
+            moment: Moment {
+                seconds: second,
+                nanos: 0,
+            },
+            payload,
+            place,
+            reply,
+        };
+        add_mark(marks, executed)
+    }
+
+    /// The next call is old: the server ends for that.
+    #[tactic(none)]
+    fn tell_old(&mut self, marks: &mut MarkLog, call: CallId) -> Result<(), Memory>
+        requires live { end_of self.old.server ≡ None }
+        requires next { IsNext self.old.server call }
+        ensures { OnOk result (TellsOld call self.old self.new marks.old marks.new) }
+    {
+        let xid = call.xid();
+        let at = match self.server.stop(REASON_OLD) {
+            End::Bad { at, .. } => at,
+            _ => return Err(Memory),
+        };
+        let link = self.number;
+        let what = Told::Old { xid, at };
+        add_mark(marks, Mark::Told { link, what })
+    }
+
+    /// Executes the next call at this second, and queues its answer, unless it is old.
     #[tactic(none)]
     fn execute(
         &mut self,
         marks: &mut MarkLog,
-        server: &mut Server,
+        server: &mut DrillServer,
         seconds: u32,
         call: CallId,
     ) -> Result<(), Memory>
@@ -41,28 +92,15 @@ impl DrillLink {
         let Ok(payload) = Octets::from_slice(self.alloc, self.server.payload(&call)) else {
             return Err(Memory);
         };
-        let moment = Moment { seconds, nanos: 0 };
-        let xid = call.xid();
-        let Ok(reply) = server.execute(self.alloc, moment, payload.as_slice()) else {
-            return Err(Memory);
+        let client = self.server.client();
+        let executed = match server.execute(self.alloc, client, seconds, payload.as_slice()) {
+            Ok(executed) => executed,
+            Err(memory) => return Err(memory),
         };
-        let Reply {
-            payload: reply,
-            place,
-        } = reply;
-        is_bytes(reply.as_slice());
-        if self.server.answer(call, reply.as_slice()).is_err() {
-            return Err(Memory);
+        match executed {
+            Some(execution) => self.give_answer(marks, call, payload, execution),
+            None => self.tell_old(marks, call),
         }
-        let executed = Mark::Execute {
-            link: self.number,
-            xid,
-            moment,
-            payload,
-            place,
-            reply,
-        };
-        add_mark(marks, executed)
     }
 
     /// Executes the next complete call at this second, if there is one and the link isn't dropped, and writes the answer.
@@ -70,7 +108,7 @@ impl DrillLink {
     pub fn work(
         &mut self,
         marks: &mut MarkLog,
-        server: &mut Server,
+        server: &mut DrillServer,
         seconds: u32,
     ) -> Result<(), Memory>
         ensures { OnOk result (Works after_work seconds self.old self.new marks.old marks.new server.old server.new) }
@@ -92,7 +130,7 @@ impl DrillLink {
     fn all_work(
         &mut self,
         marks: &mut MarkLog,
-        server: &mut Server,
+        server: &mut DrillServer,
         seconds: u32,
     ) -> Result<(), Memory>
         ensures { OnOk result (Works after_all_work seconds self.old self.new marks.old marks.new server.old server.new) }
@@ -112,7 +150,7 @@ impl DrillLink {
     pub fn moves(
         &mut self,
         marks: &mut MarkLog,
-        server: &mut Server,
+        server: &mut DrillServer,
         seconds: u32,
     ) -> Result<(), Memory>
         ensures { OnOk result (Works after_moves seconds self.old self.new marks.old marks.new server.old server.new) }

@@ -4,15 +4,15 @@ use Rattle.std.specs.List.{AllByRecursion, remove}
 use Rattle.nr_reduce.specs.declared.call.Call.{Call}
 use Rattle.nr_reduce.specs.declared.call.Outcome.{Outcome}
 use Rattle.nr_reduce.specs.declared.mark.Mark.{Mark}
-use Rattle.nr_reduce.specs.declared.mark.Mark.TheVariants as marks
 use Rattle.nr_requester.specs.declared.answer.Buffers.{Buffers}
 use Rattle.nr_requester.specs.RequesterState.{RequesterState, RequesterSide}
 use Rattle.nr_requester.specs.AfterCalls.{after_forget}
 use Rattle.nr_requester.specs.OpenCalls.{found_answer}
-use Rattle.nr_requester.specs.Standing.{StandsOn}
+use Rattle.nr_requester.specs.ReopenedLinks.{KeepsOn}
 use Rattle.nr_drill.specs.Drill.{after_done}
 use Rattle.nr_world.specs.DrillLinkState.{AwaitedLine, DrillLinkState}
 use Rattle.nr_world.specs.Steps.{Goes}
+use Rattle.nr_reduce.specs.declared.mark.Mark.TheVariants as marks
 
 -- the outcome of an xid, which had come, was taken
 pub record TakesOutcome (before : RequesterSide) (xid : ℕ) (outcome : Outcome) (after : RequesterSide) : Type 0 where
@@ -20,7 +20,7 @@ pub record TakesOutcome (before : RequesterSide) (xid : ℕ) (outcome : Outcome)
   pub buffers : Buffers
   pub came : found_answer xid before.state ≡ Some (record { xid = xid; call = call; buffers = buffers; outcome = outcome })
   pub state : after ≡ after_forget before xid
-  pub stands : StandsOn before (λ link. marks.Done link xid outcome) after
+  pub stands : KeepsOn before (λ link. marks.Done link xid outcome) after
 
 -- no outcome of these calls waits
 abbrev pub HaveNoOutcome : RequesterState → List AwaitedLine → Type 0

@@ -4,14 +4,14 @@ use Rattle.nr_rpc.specs.Credential.{CanWriteCred}
 use Rattle.nr_tree.specs.Tree.{Tree}
 use Rattle.nr_texts.specs.declared.opening.Opening.{Opening}
 use Rattle.nr_script.specs.declared.script.Line.{Line}
-use Rattle.nr_script.specs.declared.script.Line.TheVariants as lines
 use Rattle.nr_texts.specs.Limits.{number_max}
 use Rattle.nr_script.specs.Script.{seconds_in}
 use Rattle.nr_reduce.specs.Served.{CreditsInRange}
 use Rattle.nr_drill.specs.Drill.{Drill}
 use Rattle.nr_world.specs.DrillLinkState.{DrillLinkState}
 use Rattle.nr_world.specs.declared.world.World.{World}
-use Rattle.nr_world.specs.private.Stands.{WorldStands}
+use Rattle.nr_world.specs.private.Stands.{MayRejoinIn, WorldStands, drill_setting}
+use Rattle.nr_script.specs.declared.script.Line.TheVariants as lines
 
 -- a client of the script
 abbrev pub IsClient : ℕ → ℕ → Type 0
@@ -43,9 +43,10 @@ abbrev pub AreWithin : Opening → ℕ → List Line → Type 0
 AreWithin opening seconds [] = Unit {0}
 AreWithin opening seconds (line ∷ others) = IsLineWithin opening seconds line × AreWithin opening (seconds + seconds_in line) others
 
--- the world stands for a drill in which this line, or each of these lines, may come next
+-- the world stands for a drill in which this line, or each of these lines, may come next; a client that begins another link may leave the one that it has
 abbrev pub CanMake : Line → World → Type 0
 CanMake line w = (tree : Tree) × (opening : Opening) × (d : Drill) × WorldStands tree opening d w × IsLineWithin opening d.seconds line
 
 abbrev pub CanMakeAll : List Line → World → Type 0
-CanMakeAll all w = (tree : Tree) × (opening : Opening) × (d : Drill) × WorldStands tree opening d w × AreWithin opening d.seconds all
+CanMakeAll all w = (tree : Tree) × (opening : Opening) × (d : Drill) × WorldStands tree opening d w × AreWithin opening d.seconds all ×
+    MayRejoinIn (drill_setting tree opening) opening.clients all d

@@ -11,8 +11,8 @@ returns-in-Ok-clause-memory c same = absurd (cc (c.in-Ok.ensures.ended, same))
 
 pub returns-in-Memory-clause-err : goal.returns-in-Memory-clause-err
 returns-in-Memory-clause-err c =
-    let out = c.in-Err.ensures.memory (ap Err c.in-Memory.is) c.requires.live in
-    (ap calls.Ended c.in-Memory.is, ((out.0, out.1.1), sym c.in-Err.ensures.ended ∙ ap Some c.in-Memory.is))
+    let (n, (ran, (out, stops))) = c.in-Err.ensures.memory (ap Err c.in-Memory.is) c.requires.live in
+    (ap calls.Ended c.in-Memory.is, ((n, out), sym c.in-Err.ensures.ended ∙ ap Some c.in-Memory.is))
 
 pub returns-in_default : goal.returns-in_default
 returns-in_default c = record {

@@ -1,4 +1,5 @@
 use Rattle.nr_requester.proofs.KeptLaw.{awaited_law, done_law, drain_law, forget_law, lost_law, open_law, queue_law, revoke_law, submit_law}
+use Rattle.nr_requester.proofs.NoMarks.{no_marks_law, piece_law}
 use Rattle.nr_requester.proofs.laws.reopened_links_keep_their_law.Goals as goal
 
 pub returns-clause-submit : goal.returns-clause-submit
@@ -27,3 +28,9 @@ returns-clause-done c = done_law
 
 pub returns-clause-lost : goal.returns-clause-lost
 returns-clause-lost c = lost_law
+
+pub returns-clause-begins : goal.returns-clause-begins
+returns-clause-begins c = no_marks_law
+
+pub returns-clause-piece : goal.returns-clause-piece
+returns-clause-piece c = piece_law

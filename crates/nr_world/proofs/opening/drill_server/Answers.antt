@@ -1,5 +1,5 @@
 use Rattle.std.proofs.Common.{ℕ, ◌^◌, List, [], arith, subst}
-use Rattle.nr_plain.specs.Stands.{RepresentsJournal}
+use Rattle.nr_plain.specs.Numbered.{RepresentsTagged}
 use Rattle.nr_world.proofs.OpenLinks.{below_more}
 use Rattle.nr_world.proofs.opening.drill_server.Goals as goal
 
@@ -13,6 +13,6 @@ pub returns : goal.returns
 returns c = (
   c.in-Ok.tree,
   record { drill = c.in-Ok.ensures.ok; sane = c.facts.ensures },
-  subst (λ (export : List ℕ). RepresentsJournal (record { tree = c.in-Ok.tree; parameters = record { capacity = c.args.opening.capacity; verifier = record { number = 1 }; export = export } }) [] c.open.result)
-      c.in_ok-export.ensures c.open.ensures.journal,
+  subst (λ (export : List ℕ). RepresentsTagged (record { tree = c.in-Ok.tree; parameters = record { capacity = c.args.opening.capacity; verifier = record { number = 1 }; export = export } }) [] c.open.result)
+      c.in_ok-export.ensures c.open.ensures.numbered,
 )

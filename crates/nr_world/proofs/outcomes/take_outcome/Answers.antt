@@ -17,7 +17,7 @@ pub unreachable-unreachable-in-Failed : goal.unreachable-unreachable-in-Failed
 unreachable-unreachable-in-Failed c = none_comes c.args.client.now c.args.ticket c.requires.came c.in-Failed.ensures.taken.0
 
 pub returns-clause-taken : goal.returns-clause-taken
-returns-clause-taken c = took c.args.client.now c.try_take.new.self c.args.ticket _ c.in-Done.ensures.taken c.in-Done.ensures.stands
+returns-clause-taken c = took c.args.client.now c.try_take.new.self c.args.ticket _ c.in-Done.ensures.taken c.in-Done.ensures.keeps
 
 pub returns-clause-tickets : goal.returns-clause-tickets
 returns-clause-tickets c = c.in-Done.ensures.tickets

@@ -3,7 +3,7 @@ use Rattle.nr_requester.proofs.HeldRegions.{drain_sound}
 use Rattle.nr_requester.proofs.Within.{drained_within, few_left, drained_sent}
 use Rattle.std.proofs.Common.{ap, sym, ◌∙◌}
 use Rattle.nr_requester.specs.RequesterState.{RequesterSide}
-use Rattle.nr_requester.proofs.CallsKeep.{drained_keeps}
+use Rattle.nr_requester.proofs.CallsKeep.{drained_keeps, drained_stops}
 use Rattle.nr_requester.specs.Fed.{fed_bytes}
 use Rattle.nr_requester.proofs.Tickets.{kept_as, drain_keeps, fed_drained}
 use Rattle.nr_requester.proofs.requester.Requester.drain_into.Goals as goal
@@ -14,7 +14,7 @@ returns-clause-taken c d =
     let x = drain_taken d.args.self.now d.self.inside.endpoint.link d.drain_into-drained.new.self.link d.self.inside.sent d.sent_by_now-self-inside.result d.self.inside.wished d.self.inside.sends d.self.inside.next_xid d.self.inside.grant d.self.inside.local_releases t.0
     d.self.inside.outstanding.items d.self.inside.answered.items _ _ d.drain_into-drained.result d.self.inside.endpoint.staging d.drain_into-drained.new.self.staging d.self.inside.marks d.marks_if-self-inside.result d.self.view_is d.self.invariant.0.xid t.1 t.2 t.3 d.sent_by_now-self-inside.ensures t.5 d.drain_into-drained.ensures.staging
     (drain_counts d.self.inside.endpoint.link d.drain_into-drained.new.self.link t.0 d.output_len-before.result d.output_len.result d.self.inside.marks d.marks_if-self-inside.result t.1 t.3 d.output_len-before.ensures d.output_len.ensures d.marks_if-self-inside.ensures) in
-    (t.0, x.0, x.1, x.2, x.3, x.4, x.5, drained_keeps d.args.self.now _ t.0 d.self.inside.next_xid x.0 (ap (λ (h : RequesterSide). h.state.next_xid) (sym d.self.view_is)) d.self.invariant.0.xid x.2)
+    (t.0, x.0, x.1, x.2, x.3, x.4, x.5, drained_keeps d.args.self.now _ t.0 d.self.inside.next_xid x.0 (ap (λ (h : RequesterSide). h.state.next_xid) (sym d.self.view_is)) d.self.invariant.0.xid x.2, drained_stops d.args.self.now _ t.0 x.2)
 
 pub invariant_of-self : goal.invariant_of-self
 invariant_of-self g c =

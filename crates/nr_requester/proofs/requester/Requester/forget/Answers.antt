@@ -8,7 +8,7 @@ use Rattle.nr_requester.specs.Views.{forgot}
 use Rattle.nr_requester.proofs.ChangedCalls.{IsFound, is_found, below_next}
 use Rattle.nr_requester.proofs.FoundAnswers.{answered_below}
 use Rattle.nr_requester.proofs.GivenUp.{open_answered, call_answered, forgot_view, forgot_sound, forgot_within, taken_view, taken_sound, taken_within, forgot_stands, forgot_stays_out}
-use Rattle.nr_requester.proofs.CallsKeep.{forgot_keeps}
+use Rattle.nr_requester.proofs.CallsKeep.{forgot_keeps, forgot_stops}
 use Rattle.nr_requester.proofs.FoundAnswers.{left_as}
 use Rattle.nr_requester.specs.Fed.{fed_bytes}
 use Rattle.nr_requester.proofs.Tickets.{closed_as, forget_closes, fed_forgotten}
@@ -54,6 +54,17 @@ returns-in-Some-clause-keeps c =
     let next = ap (λ (h : RequesterSide). h.state.next_xid) c.self.view_is in
     let own = f.own d in
     forgot_keeps c.args.self.now _ c.args.ticket (omega (arith, below, next, own)) (returns-in-Some-clause-state c)
+
+pub returns-in-Some-clause-stops : goal.returns-in-Some-clause-stops
+returns-in-Some-clause-stops c =
+    let i = c.self.inside in
+    let f : IsFound i.outstanding.items c.args.ticket c.in-Some.at =
+    is_found i.outstanding.items c.as_slice.result.now c.args.ticket c.xid-xid.result c.in-Some.at c.as_slice.ensures.value c.xid-xid.ensures c.in-Some.ensures.some.0 c.in-Some.ensures.some.1 in
+    let d : OutstandingCall = c.index_mut.result.now in
+    let below = below_next i.next_xid c.in-Some.at i.outstanding.items d c.self.invariant.0.rising f.within in
+    let next = ap (λ (h : RequesterSide). h.state.next_xid) c.self.view_is in
+    let own = f.own d in
+    forgot_stops c.args.self.now _ c.args.ticket (omega (arith, below, next, own)) (returns-in-Some-clause-state c)
 
 pub returns-in-Some-clause-out : goal.returns-in-Some-clause-out
 returns-in-Some-clause-out c =
@@ -104,6 +115,18 @@ returns-clause-keeps c =
     let lt = answered_below i.next_xid c.args.ticket i.outstanding.items i.answered.items c.self.invariant.0.apart (ap (λ (h : RequesterSide). is_some (found_answer c.args.ticket h.state)) c.self.view_is ∙ there) in
     let next = ap (λ (h : RequesterSide). h.state.next_xid) c.self.view_is in
     forgot_keeps c.args.self.now _ c.args.ticket (omega (arith, lt, next)) (returns-clause-state c)
+
+pub returns-clause-stops : goal.returns-clause-stops
+returns-clause-stops c =
+    let i = c.self.inside in
+    let none : (k : ℕ) (d : OutstandingCall) → k < length i.outstanding.items → (get_or i.outstanding.items k d).xid ≢ c.args.ticket =
+    λ k d lt e. c.place_of.ensures.none c.in_default.is k d (subst (λ (cs : List OutstandingCall). k < length cs) (sym c.as_slice.ensures.value) lt) (ap (λ (cs : List OutstandingCall). (get_or cs k d).xid) c.as_slice.ensures.value ∙ e ∙ sym c.xid-xid.ensures) in
+    let found : open_call c.args.ticket c.args.self.now.state ≡ call_with None (found_answer c.args.ticket c.args.self.now.state) =
+    ap (λ (h : RequesterSide). open_call c.args.ticket h.state) (sym c.self.view_is) ∙ call_answered i.endpoint.link i.sent i.wished i.sends i.next_xid i.grant i.local_releases c.args.ticket i.outstanding.items i.answered.items _ none refl ∙ ap (λ (h : RequesterSide). call_with None (found_answer c.args.ticket h.state)) c.self.view_is in
+    let there : is_some (found_answer c.args.ticket c.args.self.now.state) ≡ true = open_answered (found_answer c.args.ticket c.args.self.now.state) (sym (ap (λ (o : Option Call). is_some o) found) ∙ c.requires.open) in
+    let lt = answered_below i.next_xid c.args.ticket i.outstanding.items i.answered.items c.self.invariant.0.apart (ap (λ (h : RequesterSide). is_some (found_answer c.args.ticket h.state)) c.self.view_is ∙ there) in
+    let next = ap (λ (h : RequesterSide). h.state.next_xid) c.self.view_is in
+    forgot_stops c.args.self.now _ c.args.ticket (omega (arith, lt, next)) (returns-clause-state c)
 
 pub returns-clause-out : goal.returns-clause-out
 returns-clause-out c =

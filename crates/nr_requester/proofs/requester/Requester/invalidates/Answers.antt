@@ -4,3 +4,6 @@ use Rattle.nr_requester.proofs.requester.Requester.invalidates.Goals as goal
 
 pub returns-clause-stands : goal.returns-clause-stands
 returns-clause-stands c = λ opened link run s. c.invalidates.ensures ∙ (ap (λ (h : RequesterSide). h.state.side.agreed.invalidates) c.self.view_is ∙ s.keeps.kept.keeps.invalidates)
+
+pub returns-clause-keeps : goal.returns-clause-keeps
+returns-clause-keeps c = λ is_own earlier opened link run s. c.invalidates.ensures ∙ (ap (λ (h : RequesterSide). h.state.side.agreed.invalidates) c.self.view_is ∙ s.keeps.kept.keeps.invalidates)

@@ -2,7 +2,7 @@ use Rattle.std.proofs.Common.{ℕ, ◌<◌, is_some, ap, sym, subst, ◌∙◌}
 use Rattle.nr_requester.specs.OpenCalls.{open_call, remaining_call}
 use Rattle.nr_requester.proofs.HandedBack.{open_remains, open_remaining}
 use Rattle.nr_requester.specs.AfterCalls.{after_revoke}
-use Rattle.nr_requester.proofs.CallsKeep.{revoked_keeps}
+use Rattle.nr_requester.proofs.CallsKeep.{revoked_keeps, revoked_stops}
 use Rattle.nr_requester.proofs.GivenUp.{revoked_stands, revoked_stays_out}
 use Rattle.nr_requester.specs.Fed.{fed_bytes}
 use Rattle.nr_requester.proofs.Tickets.{closed_as, revoke_closes, fed_revoked}
@@ -23,6 +23,11 @@ returns-clause-stands c =
 pub returns-clause-keeps : goal.returns-clause-keeps
 returns-clause-keeps c =
     revoked_keeps c.args.self.now c.revoke_xid.new.self c.args.ticket _ (subst (λ (n : ℕ). n < c.args.self.now.state.next_xid) c.xid.ensures c.revoke_xid.ensures.number)
+    (c.revoke_xid.ensures.state ∙ ap (λ (n : ℕ). after_revoke c.args.self.now n) c.xid.ensures)
+
+pub returns-clause-stops : goal.returns-clause-stops
+returns-clause-stops c =
+    revoked_stops c.args.self.now c.revoke_xid.new.self c.args.ticket _ (subst (λ (n : ℕ). n < c.args.self.now.state.next_xid) c.xid.ensures c.revoke_xid.ensures.number)
     (c.revoke_xid.ensures.state ∙ ap (λ (n : ℕ). after_revoke c.args.self.now n) c.xid.ensures)
 
 pub returns-clause-out : goal.returns-clause-out

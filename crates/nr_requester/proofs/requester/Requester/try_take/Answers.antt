@@ -3,7 +3,7 @@ use Rattle.nr_requester.specs.RequesterState.{RequesterSide}
 use Rattle.nr_requester.specs.AfterCalls.{after_forget}
 use Rattle.nr_requester.specs.OpenCalls.{found_answer}
 use Rattle.nr_requester.proofs.FoundAnswers.{place_says, none_if}
-use Rattle.nr_requester.proofs.CallsKeep.{done_keeps, lost_keeps}
+use Rattle.nr_requester.proofs.CallsKeep.{done_keeps, done_stops, lost_keeps}
 use Rattle.nr_requester.proofs.GivenUp.{done_stands, lost_stands}
 use Rattle.nr_requester.specs.Fed.{fed_bytes}
 use Rattle.nr_requester.proofs.Tickets.{closed_as, forget_closes, fed_forgotten}
@@ -25,6 +25,11 @@ returns-then-is_some-clause-stands c =
 pub returns-then-is_some-clause-keeps : goal.returns-then-is_some-clause-keeps
 returns-then-is_some-clause-keeps c =
     done_keeps c.args.self.now c.take_done.new.self c.args.ticket c.take_done.result.outcome (subst (λ (n : ℕ). n < c.args.self.now.state.next_xid) c.xid-then-is_some.ensures c.take_done.ensures.number)
+    (c.take_done.ensures.state ∙ ap (λ (n : ℕ). after_forget c.args.self.now n) c.xid-then-is_some.ensures)
+
+pub returns-then-is_some-clause-stops : goal.returns-then-is_some-clause-stops
+returns-then-is_some-clause-stops c =
+    done_stops c.args.self.now c.take_done.new.self c.args.ticket c.take_done.result.outcome (subst (λ (n : ℕ). n < c.args.self.now.state.next_xid) c.xid-then-is_some.ensures c.take_done.ensures.number)
     (c.take_done.ensures.state ∙ ap (λ (n : ℕ). after_forget c.args.self.now n) c.xid-then-is_some.ensures)
 
 pub returns-in-None-clause-taken : goal.returns-in-None-clause-taken

@@ -20,6 +20,6 @@ pub returns-in-Memory-clause-fed : goal.returns-in-Memory-clause-fed
 returns-in-Memory-clause-fed g c = let f = c.in-Err.ensures in let m = c.args.self.now in λ history last st is_last room out.
     (let memory = sym f.ended ∙ ap Some c.in-Memory.is in
     let live = was_live m.requester c.feed.new.self (going m.stopped st.initial m.requester history c.requires.goes st.represents).0 memory (λ some. (f.kept some).0) in
-    let (n, (ran, runs)) = f.memory (ap Err c.in-Memory.is) live in
+    let (n, (ran, (runs, stops))) = f.memory (ap Err c.in-Memory.is) live in
     feeds_out g.O.Sink.taken g.O.Sink.faults g.C.CallRule.allows m _ c.args.piece.now n history last refl refl refl refl refl c.requires.goes c.requires.flushed memory runs f.tickets
     (ap (λ (x : RequesterState). x.next_xid) ran.out.same ∙ next_piece (feeding_of m.requester) (take n c.args.piece.now)) f.within c.requires.some room is_last out st)

@@ -3,7 +3,7 @@ use Rattle.std.proofs.Common.{◌≡◌, ℕ, ◌≤◌, ◌<◌, true, length, 
 use Rattle.nr_requester.specs.OpenCalls.{found_answer, open_call}
 use Rattle.nr_world.specs.declared.awaited.AwaitedCall.{AwaitedCall}
 use Rattle.nr_world.specs.DrillLinkState.{AwaitedLine, DrillLinkState}
-use Rattle.nr_world.specs.Views.{line_view, link_view}
+use Rattle.nr_world.specs.Views.{call_view, line_view, link_view}
 use Rattle.nr_world.proofs.Standing.{on_ok}
 use Rattle.nr_world.proofs.HandSteps.{within_view, came_view, closed_open, completes, from_hands, handed}
 use Rattle.nr_world.proofs.OpenTickets.{open_at}
@@ -46,11 +46,11 @@ invariant_of-self c =
 
 pub returns : goal.returns
 returns c =
-    let v : DrillLinkState = link_view c.self.inside.number c.self.inside.client c.self.inside.server.side c.self.inside.up c.self.inside.down c.self.inside.dropped c.self.inside.lines c.self.inside.awaited.items in
+    let v : DrillLinkState = link_view c.self.inside.number c.self.inside.client c.self.inside.server.side c.self.inside.up c.self.inside.down c.self.inside.dropped c.self.inside.lines c.self.inside.awaited.items c.self.inside.held.items in
     let within : c.args.at < length c.self.inside.awaited.items =
     within_view c.self.inside.awaited.items c.args.at (subst (λ (x : DrillLinkState). c.args.at < length x.awaited) (sym c.self.view_is) c.requires.there) in
     on_ok c.add_mark.result _ _
-    (λ more. from_hands c.args.at v c.args.self.now (handed v c.take_outcome-outcome.new.client (map line_view c.remove-ticket.new.self.items)) c.args.marks.now c.add_mark.new.marks c.self.view_is
+    (λ more. from_hands c.args.at v c.args.self.now (handed v c.take_outcome-outcome.new.client (map line_view c.remove-ticket.new.self.items) (map call_view c.remove-ticket.new.self.items)) c.args.marks.now c.add_mark.new.marks c.self.view_is
     (completes v c.self.inside.awaited.items c.remove-ticket.new.self.items c.remove-ticket.result c.take_outcome-outcome.new.client c.args.at c.xid-xid.result c.take_outcome-outcome.result c.args.marks.now c.add_mark.new.marks
-    refl within c.self.invariant.1.1.1.1.apart c.remove-ticket.ensures.value c.remove-ticket.ensures.items c.xid-xid.ensures c.take_outcome-outcome.ensures.taken more))
+    refl refl within c.self.invariant.1.1.1.1.apart c.facts.ensures.apart c.remove-ticket.ensures.value c.remove-ticket.ensures.items c.xid-xid.ensures c.take_outcome-outcome.ensures.taken more))
     c.add_mark.ensures

@@ -54,7 +54,7 @@ invariant_of-self-2 c =
 
 pub returns : goal.returns
 returns c =
-    let v : DrillLinkState = link_view c.self.inside.number c.self.inside.client c.self.inside.server.side c.self.inside.up c.self.inside.down c.self.inside.dropped c.self.inside.lines c.self.inside.awaited.items in
+    let v : DrillLinkState = link_view c.self.inside.number c.self.inside.client c.self.inside.server.side c.self.inside.up c.self.inside.down c.self.inside.dropped c.self.inside.lines c.self.inside.awaited.items c.self.inside.held.items in
     let piece : c.in-Ok.bytes ≡ take c.args.most v.pipes.up = c.in-Ok.ensures ∙ c.peek-piece.ensures in
     let some : c.in-Ok.bytes ≢ [] = λ none. is_something c.peek-piece.result.now c.is_empty.result c.is_empty.ensures c.if-is_empty.false (sym c.in-Ok.ensures ∙ none) in
     let takes : TakesPiece c.self.inside.server.side c.in-Ok.bytes c.feed.new.self.side = subst (λ (xs : List ℕ). TakesPiece c.self.inside.server.side xs c.feed.new.self.side) c.as_slice.ensures c.feed.ensures.stands in

@@ -1,8 +1,9 @@
 use Rattle.std.specs.Prelude.{◌-◌}
 use Rattle.std.proofs.Common.{◌∙◌, arith, ℕ, List, [], ◌∷◌, ◌++◌, map, sym, ap}
 use Rattle.nr_reduce.specs.declared.mark.Mark.TheVariants as marks
+use Rattle.nr_reduce.specs.History.{AcceptedCall}
 use Rattle.nr_world.specs.DrillLinkState.{AwaitedLine, DrillLinkState}
-use Rattle.nr_world.specs.Views.{line_view, link_view}
+use Rattle.nr_world.specs.Views.{call_view, line_view, link_view}
 use Rattle.nr_drill.specs.Drill.{after_forget}
 use Rattle.nr_world.proofs.GivenLines.{open_ticket, left_open, none_left}
 use Rattle.nr_world.proofs.GivenUp.{forget_idle, stays, stays_absent, none_if_dropped, none_if_ended, with_client, TookOut, forgets, none_of, some_of}
@@ -31,7 +32,7 @@ invariant_of-self c = (
       (
         c.self.invariant.1.1.1.0,
         calls_open c.self.inside.client.state c.take_line.new.awaited.items
-            (none_left c.self.inside.client.state (c.args.number - 1) c.take_line.result (map line_view c.self.inside.awaited.items) (map line_view c.take_line.new.awaited.items) c.in_default.is c.take_line.ensures (lines_open c.self.inside.client.state c.self.inside.awaited.items c.self.invariant.1.1.1.1)),
+            (none_left c.self.inside.client.state (c.args.number - 1) c.take_line.result (map line_view c.self.inside.awaited.items) (map line_view c.take_line.new.awaited.items) c.in_default.is c.take_line.ensures.lines (lines_open c.self.inside.client.state c.self.inside.awaited.items c.self.invariant.1.1.1.1)),
       ),
     ),
   ),
@@ -39,11 +40,11 @@ invariant_of-self c = (
 
 pub returns-in_default : goal.returns-in_default
 returns-in_default c =
-    stays_absent c.args.number (λ s link. after_forget s link c.args.number) _ c.args.self.now c.take_line.result (map line_view c.take_line.new.awaited.items) c.args.marks.now (forget_idle c.args.number) c.self.view_is c.in_default.is c.take_line.ensures
+    stays_absent c.args.number (λ s link. after_forget s link c.args.number) _ c.args.self.now c.take_line.result (map line_view c.take_line.new.awaited.items) (map call_view c.take_line.new.awaited.items) c.args.marks.now (forget_idle c.args.number) c.self.view_is c.in_default.is c.take_line.ensures.lines (c.take_line.ensures.calls c.self.invariant.1.1.1.1.apart)
 
 pub forget-requires : goal.forget-requires
 forget-requires c = record {
-  «open» = open_ticket c.self.inside.client.state (c.args.number - 1) c.in-Some.ticket (map line_view c.self.inside.awaited.items) (map line_view c.take_line.new.awaited.items) c.in-Some.ensures (lines_open c.self.inside.client.state c.self.inside.awaited.items c.self.invariant.1.1.1.1);
+  «open» = open_ticket c.self.inside.client.state (c.args.number - 1) c.in-Some.ticket (map line_view c.self.inside.awaited.items) (map line_view c.take_line.new.awaited.items) c.in-Some.ensures.lines (lines_open c.self.inside.client.state c.self.inside.awaited.items c.self.invariant.1.1.1.1);
 }
 
 pub invariant_of-self-2 : goal.invariant_of-self-2
@@ -56,7 +57,7 @@ invariant_of-self-2 c = (
       (
         c.self.invariant.1.1.1.0,
         calls_open c.forget.new.self.state c.take_line.new.awaited.items
-            (left_open c.self.inside.client.state c.forget.new.self.state (c.args.number - 1) c.in-Some.ticket (map line_view c.self.inside.awaited.items) (map line_view c.take_line.new.awaited.items) c.in-Some.ensures
+            (left_open c.self.inside.client.state c.forget.new.self.state (c.args.number - 1) c.in-Some.ticket (map line_view c.self.inside.awaited.items) (map line_view c.take_line.new.awaited.items) c.in-Some.ensures.lines
             c.forget.ensures.tickets.others (lines_open c.self.inside.client.state c.self.inside.awaited.items c.self.invariant.1.1.1.1)),
       ),
     ),
@@ -65,16 +66,18 @@ invariant_of-self-2 c = (
 
 pub returns : goal.returns
 returns c =
-    let v : DrillLinkState = link_view c.self.inside.number c.self.inside.client c.self.inside.server.side c.self.inside.up c.self.inside.down c.self.inside.dropped c.self.inside.lines c.self.inside.awaited.items in
+    let v : DrillLinkState = link_view c.self.inside.number c.self.inside.client c.self.inside.server.side c.self.inside.up c.self.inside.down c.self.inside.dropped c.self.inside.lines c.self.inside.awaited.items c.self.inside.held.items in
     let left : List AwaitedLine = map line_view c.take_line.new.awaited.items in
-    let took : TookOut v c.args.number c.in-Some.ticket left = record {
+    let calls : List AcceptedCall = map call_view c.take_line.new.awaited.items in
+    let took : TookOut v c.args.number c.in-Some.ticket left calls = record {
       stands = c.if-self.false;
       live = none_of c.self.inside.client.state.side.ended c.end.result c.is_some.result c.end.ensures c.is_some.ensures c.if-is_some.false;
       tickets = (lines_open c.self.inside.client.state c.self.inside.awaited.items c.self.invariant.1.1.1.1);
-      taken = c.in-Some.ensures;
+      taken = c.in-Some.ensures.lines;
+      call = c.in-Some.ensures.calls c.self.invariant.1.1.1.1.apart;
     } in
     on_ok c.add_mark.result _ _
-    (λ more. from_view (λ s link. after_forget s link c.args.number) v c.args.self.now (with_client v c.forget.new.self left) c.args.marks.now c.add_mark.new.marks c.self.view_is
-    (forgets v c.forget.new.self c.args.number c.in-Some.ticket left c.args.marks.now c.add_mark.new.marks took c.forget.ensures.state c.forget.ensures.stands
+    (λ more. from_view (λ s link. after_forget s link c.args.number) v c.args.self.now (with_client v c.forget.new.self left calls) c.args.marks.now c.add_mark.new.marks c.self.view_is
+    (forgets v c.forget.new.self c.args.number c.in-Some.ticket left calls c.args.marks.now c.add_mark.new.marks took c.forget.ensures.state c.forget.ensures.keeps
     (more ∙ ap (λ (x : ℕ). c.args.marks.now ++ marks.Forget c.self.inside.number x ∷ []) c.xid-xid.ensures)))
     c.add_mark.ensures

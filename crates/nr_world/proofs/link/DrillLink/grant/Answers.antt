@@ -17,7 +17,7 @@ invariant_of-self c = server_kept _ c.self.inside.server.side.link c.set_credits
 
 pub returns : goal.returns
 returns c =
-    let v : DrillLinkState = link_view c.self.inside.number c.self.inside.client c.self.inside.server.side c.self.inside.up c.self.inside.down c.self.inside.dropped c.self.inside.lines c.self.inside.awaited.items in
+    let v : DrillLinkState = link_view c.self.inside.number c.self.inside.client c.self.inside.server.side c.self.inside.up c.self.inside.down c.self.inside.dropped c.self.inside.lines c.self.inside.awaited.items c.self.inside.held.items in
     on_ok c.add_mark.result _ _
     (λ more. grants_to v c.args.self.now c.set_credits.new.self.side c.args.credits c.args.marks.now _ c.self.view_is c.set_credits.ensures.stands c.set_credits.ensures.end more)
     c.add_mark.ensures

@@ -13,7 +13,7 @@ invariant_of-self-then-is_empty c = client_kept _ _ _ c.self.inside.client c.cli
 
 pub returns-then-is_empty : goal.returns-then-is_empty
 returns-then-is_empty c =
-    let v : DrillLinkState = link_view c.self.inside.number c.self.inside.client c.self.inside.server.side c.self.inside.up c.self.inside.down c.self.inside.dropped c.self.inside.lines c.self.inside.awaited.items in
+    let v : DrillLinkState = link_view c.self.inside.number c.self.inside.client c.self.inside.server.side c.self.inside.up c.self.inside.down c.self.inside.dropped c.self.inside.lines c.self.inside.awaited.items c.self.inside.held.items in
     wrote_no_bytes_up v c.args.self.now c.client_output.new.client _ c.args.marks.now c.self.view_is c.in-Ok.ensures.writes (c.is_empty.ensures.0 c.if-is_empty.true)
 
 pub same-bytes : goal.same-bytes
@@ -24,7 +24,7 @@ invariant_of-self-2 c = client_kept _ _ _ c.self.inside.client c.client_output.n
 
 pub returns : goal.returns
 returns c =
-    let v : DrillLinkState = link_view c.self.inside.number c.self.inside.client c.self.inside.server.side c.self.inside.up c.self.inside.down c.self.inside.dropped c.self.inside.lines c.self.inside.awaited.items in
+    let v : DrillLinkState = link_view c.self.inside.number c.self.inside.client c.self.inside.server.side c.self.inside.up c.self.inside.down c.self.inside.dropped c.self.inside.lines c.self.inside.awaited.items c.self.inside.held.items in
     on_ok c.put_output.result _ _
     (λ put. wrote_bytes_up v c.args.self.now c.client_output.new.client _ _ c.put_output.new.pipe.waiting c.args.marks.now _ c.self.view_is c.in-Ok.ensures.writes (some_bytes _ _ c.is_empty.ensures c.if-is_empty.false) refl put.0 put.1)
     c.put_output.ensures

@@ -6,7 +6,7 @@ use Rattle.nr_world.proofs.LineSteps.{lines_on, lines_end, line_within}
 use Rattle.nr_world.proofs.world.World.all_lines.Goals as goal
 
 pub loop-line-init : goal.loop-line-init
-loop-line-init c = (c.requires, λ tree opening d h. (d, h, λ last made. made))
+loop-line-init c = (c.requires, λ tree opening d h may. (d, h, may, λ last made. made))
 
 pub line-requires : goal.line-requires
 line-requires c = subst (λ (e : Line). CanMake e c.loop-line.self) (sym c.line-item.is)

@@ -12,5 +12,5 @@ index_mut-requires c =
     search rules
 
 pub returns : goal.returns
-returns c = cred_makes c.args.client c.args.cred.now c.args.self.now _ (cred_fits c.args.self.now c.args.client c.args.cred.now c.requires) (record { links = refl; marks = refl; server = refl }) refl
+returns c = cred_makes c.args.client c.args.cred.now c.args.self.now _ (cred_fits c.args.self.now c.args.client c.args.cred.now c.requires) (record { first_line = refl; links = refl; owners = refl; marks = refl; server = refl }) refl
     (ap (λ (x : Cred). slice_set c.args.self.now.creds.items (c.args.client - 1) x) c.in_ok-self.ensures)

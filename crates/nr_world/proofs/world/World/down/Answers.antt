@@ -7,4 +7,4 @@ use Rattle.nr_world.proofs.world.World.down.Goals as goal
 
 pub returns : goal.returns
 returns c = on_ok c.down.result _ _ c.down.ensures (world_goes (λ (s : Setting) (link : ℕ) (d : Drill). after_down s link c.args.most d) (λ s link d. (down_adds s link c.args.most d, down_leaves s link c.args.most d)) c.args.client c.args.self.now _ c.index_mut.result.now c.down.new.self
-    c.index_mut.ensures.value c.requires (record { links = refl; seconds = refl; creds = refl }) refl)
+    c.index_mut.ensures.value c.requires (record { first_line = refl; links = refl; owners = refl; seconds = refl; creds = refl }) refl)

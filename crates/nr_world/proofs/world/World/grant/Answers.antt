@@ -16,4 +16,4 @@ grant-requires-clause-few c =
 
 pub returns : goal.returns
 returns c = on_ok c.grant.result _ _ c.grant.ensures (world_goes (λ (s : Setting) (link : ℕ) (d : Drill). after_grant link c.args.credits d) (λ s link d. (grant_adds link c.args.credits d, grant_leaves s link c.args.credits d)) c.args.client c.args.self.now _ c.index_mut.result.now c.grant.new.self
-    c.index_mut.ensures.value c.requires.client (record { links = refl; seconds = refl; creds = refl }) refl)
+    c.index_mut.ensures.value c.requires.client (record { first_line = refl; links = refl; owners = refl; seconds = refl; creds = refl }) refl)

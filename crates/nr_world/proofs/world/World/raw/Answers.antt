@@ -9,4 +9,4 @@ use Rattle.nr_world.proofs.world.World.raw.Goals as goal
 pub returns : goal.returns
 returns c = on_ok c.raw.result _ _ c.raw.ensures (λ goes. world_goes (λ (s : Setting) (link : ℕ) (d : Drill). after_raw link c.args.side c.args.bytes.now (is_dropped link d.marks) d)
     (λ s link d. (raw_adds link c.args.side c.args.bytes.now (is_dropped link d.marks) d, raw_leaves s link c.args.side c.args.bytes.now (is_dropped link d.marks) d)) c.args.client c.args.self.now _ c.index_mut.result.now c.raw.new.self
-    c.index_mut.ensures.value c.requires (record { links = refl; seconds = refl; creds = refl }) refl (goes c.args.self.now.marks))
+    c.index_mut.ensures.value c.requires (record { first_line = refl; links = refl; owners = refl; seconds = refl; creds = refl }) refl (goes c.args.self.now.marks))

@@ -10,5 +10,5 @@ report_of-requires c =
     omega (arith, all, c.requires)
 
 pub returns-in-Ok : goal.returns-in-Ok
-returns-in-Ok c = if_ok c.report_of.result _ _ c.report_of.ensures.reports (λ report tells. tells_world c.args.self c.args.self.marks c.as_slice.result.now c.as_slice-in-Ok.result.now report refl
-    (c.as_slice.ensures.value ∙ c.in-Ok.ensures.clients) (subst (AreEndsOf c.args.self) (sym c.as_slice-in-Ok.ensures.value) c.in-Ok.ensures.ends) tells)
+returns-in-Ok c = if_ok c.report_of.result _ _ c.report_of.ensures.reports (λ report tells. tells_world c.args.self c.args.self.marks c.as_slice.result.now c.as_slice-in-Ok.result.now report refl c.as_slice.ensures.value
+    (subst (AreEndsOf c.args.self) (sym c.as_slice-in-Ok.ensures.value) c.in-Ok.ensures.ends) tells)

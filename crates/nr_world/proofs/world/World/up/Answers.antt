@@ -7,4 +7,4 @@ use Rattle.nr_world.proofs.world.World.up.Goals as goal
 
 pub returns : goal.returns
 returns c = on_ok c.up.result _ _ c.up.ensures (world_goes (λ (s : Setting) (link : ℕ) (d : Drill). after_up s link c.args.most d) (λ s link d. (up_adds s link c.args.most d, up_leaves s link c.args.most d)) c.args.client c.args.self.now _ c.index_mut.result.now c.up.new.self
-    c.index_mut.ensures.value c.requires (record { links = refl; seconds = refl; creds = refl }) refl)
+    c.index_mut.ensures.value c.requires (record { first_line = refl; links = refl; owners = refl; seconds = refl; creds = refl }) refl)
