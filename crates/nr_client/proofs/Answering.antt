@@ -19,8 +19,8 @@ use Rattle.nr_requester.specs.OpenCalls.{found_answer, open_call}
 use Rattle.nr_requester.specs.Standing.{StandsOn, StaysOut}
 use Rattle.nr_requester.proofs.OwnLaw.{submit_keeps_law}
 use Rattle.nr_requester.proofs.OpenTickets.{done_keeps_law, forget_keeps_law, forget_out_keeps_law}
-use Rattle.nr_client.specs.declared.call_end.CallEnd.{CallEnd}
-use Rattle.nr_client.specs.declared.call_end.CallEnd.TheVariants as calls
+use Rattle.nr_shared.specs.declared.call_end.CallEnd.{CallEnd}
+use Rattle.nr_shared.specs.declared.call_end.CallEnd.TheVariants as calls
 use Rattle.nr_client.specs.Ending.{LinkCause}
 use Rattle.nr_client.specs.Calls.{AddsForget, Answers, Completes, Forgets, GivesUp, HandsOver, IsSent, IsSubmitted, MovesOfCall, NoneCame, RefusesToSubmit, Submits, run_to_submit}
 use Rattle.nr_client.specs.Steps.{GoesOn, GoesTo, HasCreditLeft, IsLeft, IsLive, LacksAnswer, ReadsNone, WritesFirst}

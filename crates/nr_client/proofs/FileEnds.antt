@@ -9,9 +9,9 @@ use Rattle.nr_nfs_base.specs.declared.attributes.Attributes.{Attributes}
 use Rattle.nr_nfs_res.specs.declared.bytes.ReadOk.{ReadOk}
 use Rattle.nr_reduce.specs.declared.call.Call.{Call}
 use Rattle.nr_reduce.specs.declared.call.Outcome.{Outcome}
+use Rattle.nr_shared.specs.declared.call_end.CallEnd.{CallEnd}
 use Rattle.nr_client.specs.declared.client_end.ClientEnd.{ClientEnd}
 use Rattle.nr_client.specs.declared.client_end.ClientEnd.TheVariants as client
-use Rattle.nr_client.specs.declared.call_end.CallEnd.{CallEnd}
 use Rattle.nr_client.specs.Following.Next.{Returns}
 use Rattle.nr_client.specs.Reading.{EndsAtReply, FileRead, OpenRead, TakesPart, bytes_of, bytes_read, file_read, next_read, piece_left, read_call, read_result, starts_at, with_size, ReadingOver, EndsReadingOver, ReadsFileOver, ForgetsCallsOver}
 use Rattle.nr_client.specs.Reading.FileRead.{SizeKnown, ReadEnds}

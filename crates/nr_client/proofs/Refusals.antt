@@ -17,9 +17,9 @@ use Rattle.nr_requester.specs.RequesterState.{RequesterSide, RequesterState}
 use Rattle.nr_requester.specs.Answers.{answer_by_plan, answer_if, answer_of, plan_under}
 use Rattle.nr_requester.specs.MaySubmit.{may_submit}
 use Rattle.nr_requester.proofs.MaySubmit.{answer_in_window}
+use Rattle.nr_shared.specs.declared.call_end.CallEnd.{CallEnd}
+use Rattle.nr_shared.specs.declared.call_end.CallEnd.TheVariants as calls
 use Rattle.nr_client.specs.Ending.{HasCredit, IsCause, IsEndOf, LinkCause, SinkCountAt, SourceCountAt}
-use Rattle.nr_client.specs.declared.call_end.CallEnd.{CallEnd}
-use Rattle.nr_client.specs.declared.call_end.CallEnd.TheVariants as calls
 
 -- an answer that isn't for want of a credit, nor for an xid too far above the least one, and the end in it
 abbrev Credited : Submission → Type 0

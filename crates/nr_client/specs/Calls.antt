@@ -11,7 +11,7 @@ use Rattle.nr_reduce.specs.declared.mark.Mark.TheVariants as marks
 use Rattle.nr_link.specs.declared.end.End.TheVariants as ends
 use Rattle.nr_reduce.specs.History.{CompletedCall, bytes_received}
 use Rattle.nr_reduce.specs.Run.{client}
-use Rattle.nr_client.specs.declared.call_end.CallEnd.TheVariants as calls
+use Rattle.nr_shared.specs.declared.call_end.CallEnd.TheVariants as calls
 use Rattle.nr_reduce.specs.Opening.{IsOpened}
 use Rattle.nr_links.specs.Limits.{read_max}
 use Rattle.nr_requester.specs.RequesterState.{RequesterSide}
@@ -23,7 +23,7 @@ use Rattle.nr_client.specs.Relations.{CallRelations}
 use Rattle.nr_client.specs.Steps.{GoesTo, HasCreditLeft, HasWrittenAt, IsLeft, IsLive, IsOut, LacksCredit, ReadsNone, WritesFirst, WritesInFull, WritesInFullTo}
 use Rattle.nr_client.specs.Transfers.{LinkBytes, Moves}
 use Rattle.nr_client.specs.Views.{LinkView}
-use Rattle.nr_client.specs.declared.call_end.CallEnd.{CallEnd}
+use Rattle.nr_shared.specs.declared.call_end.CallEnd.{CallEnd}
 
 -- the marks up to a Submit, after bytes moved while the call waited for a credit
 abbrev pub run_to_submit : List Mark → ℕ → Call → ℕ → (waits : List Mark) → List Mark

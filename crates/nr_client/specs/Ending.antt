@@ -10,9 +10,9 @@ use Rattle.nr_reduce.specs.declared.call.Submission.TheVariants as submissions
 use Rattle.nr_links.specs.Limits.{read_max}
 use Rattle.nr_requester.specs.RequesterState.{RequesterSide, queue_of}
 use Rattle.nr_requester.specs.Answers.{answer_of}
+use Rattle.nr_shared.specs.declared.call_end.CallEnd.{CallEnd}
+use Rattle.nr_shared.specs.declared.call_end.CallEnd.TheVariants as calls
 use Rattle.nr_client.specs.Views.{LinkView}
-use Rattle.nr_client.specs.declared.call_end.CallEnd.{CallEnd}
-use Rattle.nr_client.specs.declared.call_end.CallEnd.TheVariants as calls
 
 -- The cause of an end of the link, by what the source has left, the number of bytes read and the requester. The end of the source ends a call
 -- only while a call is outstanding, no message of whose xid came, and all that may be written is written.

@@ -10,7 +10,7 @@ use Rattle.nr_reduce.specs.declared.call.Form.TheVariants as forms
 use Rattle.nr_reduce.specs.declared.call.Outcome.{Outcome}
 use Rattle.nr_requester.specs.RequesterState.{RequesterSide}
 use Rattle.nr_turnstile.specs.Rule.{Begins, IsIn}
-use Rattle.nr_shared.specs.declared.call_end.CallEnd.{CallEnd as SharedEnd}
+use Rattle.nr_shared.specs.declared.call_end.CallEnd.{CallEnd}
 use Rattle.nr_shared.specs.declared.entry.Entry.{Entry}
 use Rattle.nr_shared.specs.declared.entry.Entry.TheVariants as entries
 use Rattle.nr_shared.specs.declared.entry.InitialState.{InitialState}
@@ -24,7 +24,6 @@ use Rattle.nr_client.specs.Following.Next.{Calls}
 use Rattle.nr_client.specs.LinkParts.{LinkParts}
 use Rattle.nr_client.specs.Reading.{EndsAtReply, TakesRead, piece_left, read_call, reading}
 use Rattle.nr_client.specs.Requests.{Asks, SinkFaults, SourceFaults, getattr_call, getattr_result}
-use Rattle.nr_client.specs.Shared.{shared_end}
 use Rattle.nr_client.specs.Views.{LinkView, link_view}
 
 -- the most jobs of a request
@@ -43,7 +42,7 @@ pub record IsExchange (seen : List Entry) (mine : List ℕ) (call : Call) (outco
   pub own : IsIn at mine × IsIn done mine
 
 -- A call has no answer, for a cause that a beginning of the history has, in which the requester was shared already.
-pub record LacksAnswer (seen : List Entry) (call : Call) (end : SharedEnd) : Type 0 where
+pub record LacksAnswer (seen : List Entry) (call : Call) (end : CallEnd) : Type 0 where
   pub before : List Entry
   pub initial : InitialState
   pub is_initial : initial_of before ≡ Some initial
@@ -72,7 +71,7 @@ abbrev pub EndsByJobs : (uid gid : ℕ) → (file : List ℕ) → (seen : List E
     → Result (Unit {0}) ClientEnd → Type 0
 EndsByJobs uid gid file seen outcomes taken taken' given =
     EndsAtReply uid gid file outcomes taken taken' given
-    ⊎ ((call : Call) × (end : SharedEnd) × ((reading uid gid file outcomes ≡ Calls call) × ((given ≡ Err (client.Link (shared_end end)))
+    ⊎ ((call : Call) × (end : CallEnd) × ((reading uid gid file outcomes ≡ Calls call) × ((given ≡ Err (client.Link end))
     × (LacksAnswer seen call end × TakesRead given outcomes taken taken'))))
 
 -- After this outcome of GETATTR a file was read into an output by callers of a shared requester, whose places one caller has at the end. The output

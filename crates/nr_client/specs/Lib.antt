@@ -11,7 +11,6 @@ pub mod Relations
 pub mod Requests
 pub mod Results
 pub mod SessionState
-pub mod Shared
 pub mod Steps
 pub mod Transfers
 pub mod Views

@@ -30,9 +30,9 @@ use Rattle.nr_nfs_res.specs.Mount.{mount_ok_codec}
 use Rattle.nr_nfs_res.specs.declared.mount.MountOk.{MountOk}
 use Rattle.nr_reduce.specs.declared.call.Call.{Call}
 use Rattle.nr_reduce.specs.declared.call.Outcome.{Outcome}
+use Rattle.nr_shared.specs.declared.call_end.CallEnd.{CallEnd}
 use Rattle.nr_client.specs.declared.client_end.ClientEnd.{ClientEnd}
 use Rattle.nr_client.specs.declared.client_end.ClientEnd.TheVariants as client
-use Rattle.nr_client.specs.declared.call_end.CallEnd.{CallEnd}
 use Rattle.nr_client.specs.Calls.{link_relations}
 use Rattle.nr_client.specs.Ending.{SinkCountAt, SourceCountAt}
 use Rattle.nr_client.specs.Relations.{CallRelations}

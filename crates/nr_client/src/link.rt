@@ -7,13 +7,13 @@ ghost use Rattle.nr_requester.specs.AfterCalls.{opened_as};
 ghost use Rattle.nr_requester.specs.Fed.{fed_bytes};
 ghost use Rattle.nr_client.specs.LinkParts.{RepresentsNewLink};
 
-use crate::call_end::CallEnd;
 use crate::calling::{call_over, complete, submit_over};
 use crate::link_calls::Calls;
 use nr_links::PIECE_MAX;
 use nr_outside::{Sink, Source};
 use nr_reduce::{Call, Outcome};
 use nr_requester::{Requester, Ticket};
+use nr_shared::CallEnd;
 use std::alloc::Global;
 use std::marker::Model;
 

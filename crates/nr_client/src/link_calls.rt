@@ -4,9 +4,9 @@ ghost use Rattle.std.specs.Prelude.{◌≡◌, true, false, is_some, IfOk, IfErr
 ghost use Rattle.nr_rpc.specs.Credential.{CanWriteCred};
 ghost use Rattle.nr_client.specs.Relations.{ClosesTicketOver, CountsEnd, KeepsTicketsOver, OpensTicketOver};
 
-use crate::call_end::CallEnd;
 use nr_reduce::{Call, Outcome};
 use nr_requester::Ticket;
+use nr_shared::CallEnd;
 
 /// A link over which a session makes calls: a link of its own, or one that callers share. Contracts of a session say what each call was by the
 /// relations of the link.

@@ -17,7 +17,6 @@ ghost use Rattle.nr_client.specs.Jobs.{IsExchange};
 ghost use Rattle.nr_client.specs.private.JobReads.{Grows, HasNone};
 ghost use Rattle.nr_client.specs.Results.{IsOfCall};
 
-use crate::call_end::CallEnd;
 use crate::client_end::ClientEnd;
 use nr_outside::{Sink, Source};
 use nr_reduce::{Call, Form, Outcome};
@@ -83,6 +82,6 @@ pub(crate) fn outcome_of<R: Wait, I: Source, O: Sink, C: CallRule>(
             drop(buffers);
             Ok(outcome)
         }
-        Err(end) => Err(ClientEnd::Link(CallEnd::of_shared(end))),
+        Err(end) => Err(ClientEnd::Link(end)),
     }
 }

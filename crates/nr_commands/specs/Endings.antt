@@ -7,8 +7,8 @@ use Rattle.nr_link.specs.declared.end.End.{End}
 use Rattle.nr_link.specs.declared.end.End.TheVariants as ends
 use Rattle.nr_nfs_base.specs.MountStatus.{mount_status_number}
 use Rattle.nr_nfs_base.specs.Status.{status_number}
-use Rattle.nr_client.specs.declared.call_end.CallEnd.{CallEnd}
-use Rattle.nr_client.specs.declared.call_end.CallEnd.TheVariants as calls
+use Rattle.nr_shared.specs.declared.call_end.CallEnd.{CallEnd}
+use Rattle.nr_shared.specs.declared.call_end.CallEnd.TheVariants as calls
 use Rattle.nr_client.specs.declared.client_end.RpcKind.{RpcKind}
 use Rattle.nr_client.specs.declared.client_end.RpcKind.TheVariants as kinds
 use Rattle.nr_client.specs.declared.client_end.ClientEnd.{ClientEnd}

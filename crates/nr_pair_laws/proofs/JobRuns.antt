@@ -34,7 +34,7 @@ use Rattle.nr_shared.specs.Histories.{Allows, AreAllowed, FitsInitialState, byte
 use Rattle.nr_shared.specs.Marks.{IsLive as IsSharedLive}
 use Rattle.nr_shared.specs.Standing.{RepresentsHistoryIf, is_out_of_memory}
 use Rattle.nr_shared.proofs.Histories.{initial_more}
-use Rattle.nr_client.specs.declared.call_end.CallEnd.TheVariants as calls
+use Rattle.nr_shared.specs.declared.call_end.CallEnd.TheVariants as calls
 use Rattle.nr_client.specs.declared.client_end.ClientEnd.{ClientEnd}
 use Rattle.nr_client.specs.declared.client_end.ClientEnd.TheVariants as client
 use Rattle.nr_client.specs.Dialing.{DialerAt}

@@ -15,7 +15,7 @@ use Rattle.nr_reduce.specs.Asked.{AskedSoFar}
 use Rattle.nr_reduce.specs.declared.call.Outcome.{Outcome}
 use Rattle.nr_reduce.specs.declared.mark.LinkParameters.{LinkParameters}
 use Rattle.nr_reduce.specs.declared.mark.Mark.{Mark}
-use Rattle.nr_client.specs.declared.call_end.CallEnd.TheVariants as calls
+use Rattle.nr_shared.specs.declared.call_end.CallEnd.TheVariants as calls
 use Rattle.nr_client.specs.declared.client_end.ClientEnd.{ClientEnd}
 use Rattle.nr_client.specs.declared.client_end.ClientEnd.TheVariants as client
 use Rattle.nr_words.specs.Lines.{Text}

@@ -4,8 +4,8 @@ use Rattle.nr_outside.specs.Faults.{Rises}
 use Rattle.nr_link.specs.declared.end.End.{End}
 use Rattle.nr_link.specs.declared.end.End.TheVariants as ends
 use Rattle.nr_requester.specs.RequesterState.{RequesterSide}
-use Rattle.nr_client.specs.declared.call_end.CallEnd.{CallEnd}
-use Rattle.nr_client.specs.declared.call_end.CallEnd.TheVariants as calls
+use Rattle.nr_shared.specs.declared.call_end.CallEnd.{CallEnd}
+use Rattle.nr_shared.specs.declared.call_end.CallEnd.TheVariants as calls
 use Rattle.nr_client.specs.declared.client_end.ClientEnd.{ClientEnd}
 use Rattle.nr_client.specs.declared.client_end.ClientEnd.TheVariants as client
 use Rattle.nr_commands.specs.Running.Runs.{NotOpened, Opened}

@@ -4,7 +4,7 @@ use Rattle.std.specs.Prelude.{◌⊎◌, MatchBool}
 use Rattle.std.specs.Io.KnownBytes.{IsAtEnd}
 use Rattle.nr_outside.specs.Faults.{Rises}
 use Rattle.nr_outside.specs.Streams.{SinkAt}
-use Rattle.nr_client.specs.declared.call_end.CallEnd.TheVariants as calls
+use Rattle.nr_shared.specs.declared.call_end.CallEnd.TheVariants as calls
 use Rattle.nr_client.specs.declared.client_end.ClientEnd.{ClientEnd}
 use Rattle.nr_client.specs.declared.client_end.ClientEnd.TheVariants as client
 use Rattle.nr_commands.specs.Running.Runs.{NotOpened, Opened}
