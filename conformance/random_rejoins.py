@@ -31,12 +31,12 @@ USES = (
     'use Rattle.nr_tree.specs.declared.node.Content.TheVariants.{Regular, Directory}',
 )
 FILES = 100
-KINDS = {'call': 60, 'up': 40, 'work': 40, 'down': 40, 'rejoin': 20, 'drop': 5, 'forget': 7, 'revoke': 7, 'grant': 5, 'raw': 8, 'tick': 3, 'drain': 5}
+KINDS = {'call': 40, 'up': 40, 'work': 40, 'down': 40, 'rejoin': 20, 'drop': 5, 'forget': 5, 'revoke': 5, 'grant': 5, 'raw': 6, 'tick': 2, 'drain': 8}
 STATE: dict[str, Any] = {}
 
 
 class Script(Maker):
-    """Makes a script from a seed: a first line, and at most this many lines after it."""
+    """Makes a script from a seed: a first line, first calls and a drain in most, at most this many random lines, and in most a drain at the end."""
 
     def __init__(self, seed: int, lines: int) -> None:
         r = self.rng = random.Random(seed)
@@ -48,8 +48,17 @@ class Script(Maker):
         first += ' capacity %d' % r.randint(0, 1200) if r.random() < 0.15 else ''
         first += ' sizes %d %d' % (r.randint(1, 16), r.randint(1, 16)) if r.random() < 0.2 else ''
         self.lines = [first + ' numbered' + r.choice(('', '', '', ' invalidate'))]
-        self.lines += [self.line() for _ in range(r.randint(1, lines))]
-        self.lines += ['drain'] * (r.random() < 0.7)
+        first_calls = [self.first(c) for c in self.numbers] if r.random() < 0.7 else []
+        self.lines += first_calls + ['drain'] * bool(first_calls)
+        rest = [self.line() for _ in range(r.randint(1, lines))]
+        if not any(it.startswith('rejoin') for it in rest):
+            rest.insert(r.randint(0, len(rest)), 'rejoin %d' % r.randint(1, self.clients))
+        self.lines += rest + ['drain'] * (r.random() < 0.7)
+
+    def first(self, c: int) -> str:
+        """A call whose reply grants the credits of the first line."""
+        self.numbers[c] += 1
+        return self.call_line(c, 'auto', 'nfs', 0, b'')
 
     def line(self) -> str:
         r = self.rng

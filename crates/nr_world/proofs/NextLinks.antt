@@ -133,7 +133,7 @@ begun_stands number opening v v2 asks serves b s t link d e m x so h =
     let next : LinkParameters = t.opened number in
     let none : NoneOf number e.marks = x.begins.none in
     let none_here : NoneOf number d.marks = subst (NoneOf number) x.marks none in
-    let left = b.goes_on all_own h.client.0 o link number d.marks m.opens m.asked h.client.1 m.opens_next (no_mark_of number d.marks none_here) in
+    let left = b.goes_on all_own h.client.0 o link number d.marks m.opens m.asked h.client.1 (no_mark_of number d.marks none_here) in
     let asks_stand : StandsForClient (reopened o link d.marks) number asks d.marks =
     next_stands v.client.state v.client.marks (reopened o link d.marks) number asks d.marks (no_answers o link v.client d.marks m h.client) left.0 in
     let fresh : ServerOpened next opening.credits opening.credits (terms_with opening.server_units opening.invalidates) = opened_so opening o link d.marks next x.opened so in

@@ -42,8 +42,7 @@ impl World {
     }
 }
 
-/// Runs a script, and reports the drill. It fails if memory runs out, if a mark would have 2^32 bytes or more, or if a client
-/// that rejoins has too few STags left.
+/// Runs a script, and reports the drill. It fails if memory runs out, or if a mark would have 2^32 bytes or more.
 pub fn run_world(alloc: Global, script: &Script) -> Result<Report, Memory>
     ensures { IfOk result (λ report. GivesReport script.now report) }
 {

@@ -89,7 +89,7 @@ impl DrillServer {
     ///
     /// # Errors
     ///
-    /// [`Memory`] if memory ran out, or if the payload has no call head.
+    /// [`Memory`] if memory ran out, or if the payload has no call head; each call that is complete has one.
     pub fn execute(
         &mut self,
         alloc: Global,

@@ -121,7 +121,7 @@ impl World {
         self.links[client - 1].drop_link(&mut self.marks)
     }
 
-    /// The client drops its link, if that stands still, and begins the next one; nothing if it has ended.
+    /// The client drops its link, unless it was dropped, and begins the next one; nothing if it has ended.
     pub(crate) fn rejoin(&mut self, client: usize) -> Result<(), Memory>
         requires { IsClient (length self.old.links.items) client }
         ensures { OnOk result (MakesLine (lines.Rejoin client) self.old self.new) }
