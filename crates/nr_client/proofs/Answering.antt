@@ -191,6 +191,8 @@ unfolding after_forget
 still_caused xid (calls.Ended end) left read h i is cause = ap (λ (x : RequesterSide). x.state.side.ended) is ∙ cause
 still_caused xid calls.LinkRead left read h i is cause = (ap (λ (x : RequesterSide). x.state.side.ended) is ∙ cause.0, cause.1)
 still_caused xid calls.LinkWrite left read h i is cause = tt
+still_caused xid (calls.Tries n) left read h i is cause = absurd cause
+still_caused xid calls.DialFault left read h i is cause = absurd cause
 still_caused xid calls.Closed left read h i is cause =
     let as_many = ap (λ (x : RequesterSide). length x.state.outstanding) is ∙ length-map h.state.outstanding (forgotten_call xid) in
     let (ended, (at_end, (few, (some, none)))) = cause in

@@ -55,6 +55,7 @@ initial_before (entries.Revoke x bytes submit ∷ xs) xid at c is = absurd cc
 initial_before (entries.WriteFailed ∷ xs) xid at c is = absurd cc
 initial_before (entries.Stopped cause previous ∷ xs) xid at c is = absurd cc
 initial_before (entries.OutOfMemory piece previous ∷ xs) xid at c is = absurd cc
+initial_before (entries.Rejoin sink previous ∷ xs) xid at c is = absurd cc
 
 pub in_later : (xs ys : List ℕ) (y : ℕ) → IsIn y ys → IsIn y (xs ++ ys)
 in_later xs ys y i = let a = at_after xs ys i.0 y i.1 in (a.0, a.1.1)

@@ -1,7 +1,8 @@
 -- A file is read by several jobs over a shared requester.
-use Rattle.std.specs.Prelude.{◌≡◌, ⊤, ℕ, ◌<◌, ◌⊎◌, List, [], ◌∷◌, ◌++◌, Option, Some, Result, Ok, Err}
+use Rattle.std.specs.Prelude.{◌≡◌, ⊤, ℕ, ◌<◌, ◌⊎◌, List, [], ◌∷◌, ◌++◌, Option, None, Some, Result, Ok, Err}
 use mathlib.Core.Option.{some}
 use lib.ListN.{get_elem?}
+use Rattle.nr_outside.specs.Faults.{last_count}
 use Rattle.nr_outside.specs.Streams.{SinkAt, SourceAt}
 use Rattle.nr_nfs_base.specs.declared.attributes.Attributes.{Attributes}
 use Rattle.nr_reduce.specs.declared.call.Call.{Call}
@@ -109,8 +110,9 @@ pub record GetsNoAttributes (uid gid : ℕ) (file : List ℕ) (end : ClientEnd) 
   pub sink_count : SinkFaults {A = Attributes} (Err end) link.sink.faults link'.sink.faults
 
 -- The requester of a link, with its source and its sink, was shared by callers that read a file of this size, which this outcome of GETATTR gave, and
--- taken back. Each call of the complete history is a READ of what is left of a piece of the file (`allowed` of GivesBack). Whatever marks the requester
--- had made, what was given back stands for those and the history's, which keep the law of its side (`represents` of GivesBack).
+-- taken back. The link, whose sink has this number, wasn't dialled again. Each call of the complete history is a READ of what is left of a piece of the
+-- file (`allowed` of GivesBack). Whatever marks the requester had made, what was given back stands for those and the history's, which keep the law of its
+-- side (`represents` of GivesBack).
 pub record ReadsShared (uid gid : ℕ) (file : List ℕ) (first : Outcome) (size : ℕ) (link : LinkAt) (source : SourceAt) (sink : SinkAt)
     (taken taken' : Option (List ℕ)) (result : Result (Unit {0}) ClientEnd) : Type 0 where
   pub initial : InitialState
@@ -118,10 +120,12 @@ pub record ReadsShared (uid gid : ℕ) (file : List ℕ) (first : Outcome) (size
   pub mine : List ℕ
   pub is_initial : initial_of seen ≡ Some initial
   pub of_requester : initial.requester ≡ link.requester
-  pub of_sink : (initial.taken ≡ link.sink.taken) × (initial.faults ≡ link.sink.faults)
+  pub of_sink : (initial.sink.taken ≡ link.sink.taken) × (initial.sink.faults ≡ link.sink.faults)
+  pub once : initial.tries ≡ None
   pub requester : RequesterSide
-  pub back : GivesBack {I = SourceAt} {O = SinkAt} (λ x. x.left) (λ x. x.given) (λ x. x.faults) (λ x. x.taken) (λ x. x.faults) (FileReads uid gid file size)
-      seen mine link.source link.read requester source sink
+  pub number : ℕ
+  pub back : GivesBack {I = SourceAt} {O = SinkAt} {D = Unit {0}} (λ x. number) (λ x. x.left) (λ x. x.given) (λ x. x.faults) (λ x. number) (λ x. x.taken) (λ x. x.faults) (λ x. None) (λ x. last_count)
+      (FileReads uid gid file size) seen mine link.source tt link.read requester (Some (source, sink)) tt
   pub reads : ReadsByJobs uid gid file first seen mine taken taken' result
 
 -- A file was read into an output by jobs over a link, whose source and sink came back so. GETATTR was made first. It gave no size, and nothing else was

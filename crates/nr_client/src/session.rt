@@ -300,7 +300,7 @@ impl<L: Calls> Session<L> {
     }
 }
 
-impl<I: Source, O: Sink> Session<Link<I, O>> {
+impl<I: LinkSource + Drop, O: LinkSink + Drop> Session<Link<I, O>> {
     /// As `read_file`, by several jobs, 1 to 16, each in a thread of its own if there is one. The session ends: its source and its sink come back.
     /// At most 2 pieces of each job, of 1048576 bytes, are held ahead of what was written.
     pub fn read_file_by_jobs<R: Threads + Wait + Sync, K: Sink>(
@@ -311,8 +311,8 @@ impl<I: Source, O: Sink> Session<Link<I, O>> {
         out: &mut K,
     ) -> (Result<(), ClientEnd>, I, O)
     where
-        I: Drop + Send,
-        O: Drop + Send,
+        I: Send,
+        O: Send,
         requires { (0 < jobs) × (jobs ≤ jobs_max) }
         ensures reads { ReadsFileByJobs self.uid self.gid file.now
             (link_at self.link.requester (source_at (I.left self.link.source) (I.given self.link.source) (I.faults self.link.source)) (sink_at (O.taken self.link.sink) (O.faults self.link.sink)) self.link.read)

@@ -37,7 +37,7 @@ use Rattle.nr_record_loop.specs.Connections.{Unanswered, calls as exchanged_call
 use Rattle.nr_shared.specs.declared.call_end.CallEnd.TheVariants as call_ends
 use Rattle.nr_shared.specs.declared.entry.Entry.{Entry}
 use Rattle.nr_shared.specs.declared.requester_with_sink.RequesterWithSink.{RequesterWithSink}
-use Rattle.nr_shared.specs.Histories.{FitsHistory, run_of}
+use Rattle.nr_shared.specs.OneLink.{FitsOneLink, run_of}
 use Rattle.nr_shared.specs.Waiting.{NoAnswer, SendsNone}
 use Rattle.nr_gate.specs.declared.gate_end.GateEnd.{GateEnd}
 use Rattle.nr_gate.specs.declared.gate_end.GateEnd.TheVariants as ends
@@ -161,7 +161,7 @@ module _ {O C : Type 0} (p q : Pass (RequesterWithSink O C) Entry) (bytes : List
   short : (xid x : ℕ) (asked : Call) → Asks bytes xid asked → length (call_payload x asked) ≤ PAYLOAD_MAX
   short xid x asked asks = omega (arith, ap length (forwarded_payload xid x asked bytes asks), no_longer x bytes is_bytes, in_limit)
 
-  not_made : FitsHistory (seen_by q) opened link marks → Makes p q bytes (Err (call_ends.TooLarge need room)) → ⊥
+  not_made : FitsOneLink (seen_by q) opened link marks → Makes p q bytes (Err (call_ends.TooLarge need room)) → ⊥
   not_made fits m = ⊎_elim
       (λ (none : SendsNone p q m.asked forms.Auto (call_ends.TooLarge need room)).
       not_refused (client opened link run) m.asked need room (client_unit opened link run) (short m.xid (client opened link run).state.next_xid m.asked m.asks) (none.cause.1 opened link marks fits))

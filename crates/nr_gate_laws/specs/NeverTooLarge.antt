@@ -11,7 +11,7 @@ use Rattle.nr_record_loop.specs.Connections.{Loop}
 use Rattle.nr_shared.specs.declared.call_end.CallEnd.TheVariants as call_ends
 use Rattle.nr_shared.specs.declared.entry.Entry.{Entry}
 use Rattle.nr_shared.specs.declared.requester_with_sink.RequesterWithSink.{RequesterWithSink}
-use Rattle.nr_shared.specs.Histories.{FitsHistory}
+use Rattle.nr_shared.specs.OneLink.{FitsOneLink}
 use Rattle.nr_gate.specs.declared.gate_end.GateEnd.TheVariants as ends
 use Rattle.nr_gate.specs.Gating.{IsGated}
 use Rattle.nr_gate.specs.GateLinks.{GatesByPass}
@@ -20,9 +20,9 @@ use Rattle.nr_gate.specs.GateLinks.{GatesByPass}
 -- requester which stood for some marks when it was shared.
 abbrev pub ConnectionsNeverEndTooLarge : (O C : Type 0) → Type 0
 ConnectionsNeverEndTooLarge O C = (before after : Loop (Pass (RequesterWithSink O C) Entry)) (need room : ℕ) (opened : LinkParameters) (link : ℕ) (shared_after : List Mark)
-    (g : IsGated before after (ends.Remote (call_ends.TooLarge need room))) → AllByRecursion IsBytes g.records → FitsHistory (seen_by after.state) opened link shared_after → ⊥
+    (g : IsGated before after (ends.Remote (call_ends.TooLarge need room))) → AllByRecursion IsBytes g.records → FitsOneLink (seen_by after.state) opened link shared_after → ⊥
 
 -- Nor does that of a link that the gateway served itself.
 abbrev pub LinksNeverEndTooLarge : (O C : Type 0) → Type 0
 LinksNeverEndTooLarge O C = (p q : Pass (RequesterWithSink O C) Entry) (accepted hung_up : EndedLink) (source_faults sink_faults need room : ℕ) (opened : LinkParameters) (link : ℕ) (shared_after : List Mark)
-    (g : GatesByPass p accepted hung_up source_faults sink_faults (ends.Remote (call_ends.TooLarge need room)) q) → AllByRecursion IsBytes g.gated.records → FitsHistory (seen_by g.own) opened link shared_after → ⊥
+    (g : GatesByPass p accepted hung_up source_faults sink_faults (ends.Remote (call_ends.TooLarge need room)) q) → AllByRecursion IsBytes g.gated.records → FitsOneLink (seen_by g.own) opened link shared_after → ⊥

@@ -19,7 +19,8 @@ use Rattle.nr_reduce.specs.Credits.{KeepsGrant}
 use Rattle.nr_reduce.specs.History.{bytes_received, bytes_sent}
 use Rattle.nr_shared.specs.declared.entry.Entry.{Entry}
 use Rattle.nr_shared.specs.declared.entry.Stop.TheVariants as causes
-use Rattle.nr_shared.specs.Histories.{run_of, stop_of}
+use Rattle.nr_shared.specs.Histories.{stop_of}
+use Rattle.nr_shared.specs.OneLink.{run_of}
 use Rattle.nr_words.specs.Lines.{Text}
 use Rattle.nr_words.specs.declared.commands.GetByJobs.{GetByJobs}
 use Rattle.nr_shared.specs.declared.call_end.CallEnd.TheVariants as calls

@@ -149,6 +149,8 @@ link_cause_at (calls.Ended end) b cause = inr cause
 link_cause_at calls.LinkRead b cause = cause
 link_cause_at calls.LinkWrite b cause = tt
 link_cause_at calls.Closed b cause = cause
+link_cause_at (calls.Tries n) b cause = absurd cause
+link_cause_at calls.DialFault b cause = absurd cause
 link_cause_at (calls.Spent left_over need) b cause = absurd cause
 link_cause_at (calls.TooLarge need room) b cause = absurd cause
 link_cause_at (calls.Budget count) b cause = cause
@@ -159,6 +161,8 @@ cause_at (calls.Ended end) b call cause = inr cause
 cause_at calls.LinkRead b call cause = cause
 cause_at calls.LinkWrite b call cause = tt
 cause_at calls.Closed b call cause = cause
+cause_at (calls.Tries n) b call cause = absurd cause
+cause_at calls.DialFault b call cause = absurd cause
 cause_at (calls.Spent left_over need) b call cause = (call, cause)
 cause_at (calls.TooLarge need room) b call cause = (call, cause)
 cause_at (calls.Budget count) b call cause = cause
@@ -269,6 +273,8 @@ cause_kept (calls.Ended end) v w same (inl is) = inl is
 cause_kept (calls.Ended end) v w same (inr is) = inr (same.ended ∙ is)
 cause_kept calls.LinkRead v w same (is, below) = (same.ended ∙ is, subst (λ (b : LinkBytes). b.read < read_max) (sym same.bytes) below)
 cause_kept calls.LinkWrite v w same cause = tt
+cause_kept (calls.Tries n) v w same wrong = absurd wrong
+cause_kept calls.DialFault v w same wrong = absurd wrong
 cause_kept calls.Closed v w same (is, (at_end, (below, (some, none)))) = (
   same.ended ∙ is,
   (

@@ -23,6 +23,8 @@ says c made s s' input input' out out' (client.Link (calls.Ended end)) counts gi
 says c made s s' input input' out out' (client.Link calls.LinkRead) counts given = (counts.0, given)
 says c made s s' input input' out out' (client.Link calls.LinkWrite) counts given = counts.1
 says c made s s' input input' out out' (client.Link calls.Closed) counts given = given
+says c made s s' input input' out out' (client.Link (calls.Tries n)) counts given = given
+says c made s s' input input' out out' (client.Link calls.DialFault) counts given = given
 says c made s s' input input' out out' (client.Link (calls.Spent left_over need)) counts given = given
 says c made s s' input input' out out' (client.Link (calls.TooLarge need room)) counts given = given
 says c made s s' input input' out out' (client.Link (calls.Budget count)) counts given = given

@@ -4,6 +4,7 @@ pub mod Adding
 pub mod Histories
 pub mod LinkRuns
 pub mod LinkSteps
+pub mod OneBack
 pub mod OneLink
 pub mod GoingBack
 pub mod Calls

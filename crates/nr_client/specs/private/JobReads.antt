@@ -13,6 +13,7 @@ use Rattle.nr_turnstile.specs.Rule.{Begins, IsIn, IsOpen}
 use Rattle.nr_shared.specs.declared.call_end.CallEnd.{CallEnd}
 use Rattle.nr_shared.specs.declared.entry.Entry.{Entry}
 use Rattle.nr_shared.specs.declared.entry.Entry.TheVariants as entries
+use Rattle.nr_shared.specs.declared.no_dialer.NoDialer.{NoDialer}
 use Rattle.nr_shared.specs.declared.requester_with_sink.RequesterWithSink.{RequesterWithSink}
 use Rattle.nr_shared.specs.declared.shared.SharedRequester.{SharedRequester}
 use Rattle.nr_shared.specs.Histories.{closes_of}
@@ -89,9 +90,9 @@ IsUpTo size at end = (at ≡ end) ⊎ ((at < end) × (at + piece_left size at �
 
 module _ {I O C : Type 0} where
   -- a job whose pass a caller can take back, with the pieces that it has read
-  abbrev pub IsDone : SharedRequester I O C → (uid gid : ℕ) → (file : List ℕ) → (size : ℕ) → ReadJob I O C → Type 0
+  abbrev pub IsDone : SharedRequester I O C (NoDialer I O) → (uid gid : ℕ) → (file : List ℕ) → (size : ℕ) → ReadJob I O C → Type 0
   IsDone s uid gid file size j = SharedRests s j.pass × AreFetched uid gid file size (seen_by j.pass.main) (mine_of j.pass.main) j.fetched.items
 
   -- a job that may run: its pieces begin before the size, too
-  abbrev pub IsReady : SharedRequester I O C → (uid gid : ℕ) → (file : List ℕ) → (size : ℕ) → ReadJob I O C → Type 0
+  abbrev pub IsReady : SharedRequester I O C (NoDialer I O) → (uid gid : ℕ) → (file : List ℕ) → (size : ℕ) → ReadJob I O C → Type 0
   IsReady s uid gid file size j = IsDone s uid gid file size j × All (λ at. at < size) j.offsets.items
