@@ -1,5 +1,5 @@
 -- The pass that feeds, with the source and the dialer: after a turn, a read, and a dial.
-use Rattle.std.proofs.Common.{◌≡◌, ◌≢◌, ℕ, zero, suc, ◌+◌, ◌≤◌, ◌||◌, arith, Bool, true, false, is_some, List, [], ◌∷◌, ◌++◌, length, length-append, append-nil, Option, Some, None, refl, sym, ap, subst, ◌∙◌}
+use Rattle.std.proofs.Common.{◌≡◌, ◌≢◌, ℕ, zero, suc, ◌+◌, ◌≤◌, ◌||◌, arith, Bool, true, false, is_some, List, [], ◌∷◌, ◌++◌, length, length-append, append-nil, Option, Some, None, ◌⊎◌, ⊎_elim, inl, inr, refl, sym, ap, subst, ◌∙◌}
 use Rattle.std.specs.Prelude.{IfSome}
 use Rattle.std.proofs.lemmas.Grind.{flat_map-append}
 use mathlib.Core.Option.{some-injective}
@@ -23,11 +23,12 @@ use Rattle.nr_shared.specs.declared.source_reader.SourceReader.{SourceReader}
 use Rattle.nr_shared.specs.declared.requester_with_sink.RequesterWithSink.{RequesterWithSink}
 use Rattle.nr_shared.specs.Callers.{IsFeeding}
 use Rattle.nr_shared.specs.Dialing.{CannotReopen, DialsNext, HasLink, IsNext, LinkHungUp}
-use Rattle.nr_shared.specs.Draining.{fed_entry, initial_sink}
+use Rattle.nr_shared.specs.Draining.{fed_entry, initial_sink, stopped_after}
 use Rattle.nr_shared.specs.Feeding.{Feeds, FeedsFor, HungUp, InitialGiving, KeepsDialer, KeepsSource, KeepsSourceIf, KeepsSourceOf, LinkEndedIf, LinkMade, StopHolds, shared_giving}
-use Rattle.nr_shared.specs.Histories.{PastLink, PresentLink, bytes_fed, fed_by, initial_of, is_lost, is_lost_by, is_read_fault, present, present_after, stop_of, tries_in, tries_of}
+use Rattle.nr_shared.specs.Histories.{PastLink, PresentLink, bytes_fed, fed_by, initial_of, is_lost, is_lost_by, is_read_fault, last_feeding, place_or_none, present, present_after, rejoins, tries_of}
+use Rattle.nr_shared.specs.Output.{IsTryLeft}
 use Rattle.nr_shared.specs.Standing.{KeepsSinkIf, KeepsSinkOf}
-use Rattle.nr_shared.specs.private.Reading.{IsReadEnd, read_part}
+use Rattle.nr_shared.specs.private.Reading.{CanHangUp, IsReadEnd, IsUnmoved, Leaves, Redials, StaysLost, read_part}
 use Rattle.nr_shared.proofs.Alone.{tries_more}
 use Rattle.nr_shared.proofs.Histories.{present_end}
 use Rattle.nr_shared.proofs.Moving.{rises_from}
@@ -356,13 +357,13 @@ module _ {I O C D : Type 0} (link : I → ℕ) (left given : I → Option (List 
         read_is = (let was = r.read_is in let len = ap length bytes ∙ length-append (bytes_fed h) piece in omega (arith, was, more, len));
         within = within;
       } where
-    piece_of : (shared : InitialGiving) (x o : Bool) (l : PresentLink) → l.stopped ≡ None → KeepsSourceOf link left given faults x (is_some (ended b.dialer.value)) shared (Some source) read l → KeepsSourceOf link left given faults x (is_some (ended b.dialer.value)) shared (Some source') read' (present_after l (fed_entry o piece 0))
-    piece_of shared x true l none k = piece_if link left given faults x (is_some (ended b.dialer.value)) shared source source' l.sink read read' l piece true gave number same none k
-    piece_of shared x false l none k = piece_if link left given faults x (is_some (ended b.dialer.value)) shared source source' l.sink read read' l piece false gave number same none k
+        piece_of : (shared : InitialGiving) (x o : Bool) (l : PresentLink) → l.stopped ≡ None → KeepsSourceOf link left given faults x (is_some (ended b.dialer.value)) shared (Some source) read l → KeepsSourceOf link left given faults x (is_some (ended b.dialer.value)) shared (Some source') read' (present_after l (fed_entry o piece 0))
+        piece_of shared x true l none k = piece_if link left given faults x (is_some (ended b.dialer.value)) shared source source' l.sink read read' l piece true gave number same none k
+        piece_of shared x false l none k = piece_if link left given faults x (is_some (ended b.dialer.value)) shared source source' l.sink read read' l piece false gave number same none k
 
-    dialer_piece : (shared : InitialGiving) (o : Bool) (l : PresentLink) → l.stopped ≡ None → KeepsDialer ended dialer_faults shared b.dialer.value dialer l → KeepsDialer ended dialer_faults shared b.dialer.value dialer (present_after l (fed_entry o piece 0))
-    dialer_piece shared true l none k = dialer_stays ended dialer_faults shared b.dialer.value dialer l (present_after l (fed_entry true piece 0)) refl refl (λ e. none_some causes.DialFault (sym none ∙ e)) (none_dial true piece 0 l none) k
-    dialer_piece shared false l none k = dialer_stays ended dialer_faults shared b.dialer.value dialer l (present_after l (fed_entry false piece 0)) refl refl (λ e. none_some causes.DialFault (sym none ∙ e)) (none_dial false piece 0 l none) k
+        dialer_piece : (shared : InitialGiving) (o : Bool) (l : PresentLink) → l.stopped ≡ None → KeepsDialer ended dialer_faults shared b.dialer.value dialer l → KeepsDialer ended dialer_faults shared b.dialer.value dialer (present_after l (fed_entry o piece 0))
+        dialer_piece shared true l none k = dialer_stays ended dialer_faults shared b.dialer.value dialer l (present_after l (fed_entry true piece 0)) refl refl (λ e. none_some causes.DialFault (sym none ∙ e)) (none_dial true piece 0 l none) k
+        dialer_piece shared false l none k = dialer_stays ended dialer_faults shared b.dialer.value dialer l (present_after l (fed_entry false piece 0)) refl refl (λ e. none_some causes.DialFault (sym none ∙ e)) (none_dial false piece 0 l none) k
 
   -- no more is read
   pub reads_stopped : (b : InitialSource I O C D) (source source' : I) (dialer : D) (read : ℕ) (h k : List Entry) (cause : Stop) → Reads b (Some source) dialer read h → tries_of k ≡ tries_of h
@@ -383,14 +384,14 @@ module _ {I O C D : Type 0} (link : I → ℕ) (left given : I → Option (List 
         read_is = r.read_is ∙ ap (λ (bs : List ℕ). b.read + length bs) (sym bytes);
         within = r.within;
       } where
-    no_dial : (c : Stop) → IsReadEnd c → Some c ≡ Some causes.DialFault → ⊥
-    no_dial causes.LinkRead end e = absurd cc
-    no_dial causes.Closed end e = absurd cc
-    no_dial causes.Budget end e = absurd cc
-    no_dial causes.Memory end e = end
-    no_dial causes.DialFault end e = end
-    no_dial (causes.Spent spent need) end e = end
-    no_dial causes.NotReopened end e = end
+        no_dial : (c : Stop) → IsReadEnd c → Some c ≡ Some causes.DialFault → ⊥
+        no_dial causes.LinkRead end e = absurd cc
+        no_dial causes.Closed end e = absurd cc
+        no_dial causes.Budget end e = absurd cc
+        no_dial causes.Memory end e = end
+        no_dial causes.DialFault end e = end
+        no_dial (causes.Spent spent need) end e = end
+        no_dial causes.NotReopened end e = end
 
   -- the requester couldn't be reopened
   pub reads_stay : (b : InitialSource I O C D) (source : Option I) (dialer : D) (read : ℕ) (h : List Entry) (c : InitialState) (cause : Stop) (previous : ℕ) → Reads b source dialer read h → initial_of h ≡ Some c → is_lost h ≡ true → CannotReopen cause
@@ -411,28 +412,28 @@ module _ {I O C D : Type 0} (link : I → ℕ) (left given : I → Option (List 
         read_is = r.read_is ∙ ap (λ (bs : List ℕ). b.read + length bs) (sym bytes);
         within = r.within;
       } where
-    no_dial : (c : Stop) → CannotReopen c → Some c ≡ Some causes.DialFault → ⊥
-    no_dial (causes.Spent spent need) end e = absurd cc
-    no_dial causes.NotReopened end e = absurd cc
-    no_dial causes.LinkRead end e = end
-    no_dial causes.Closed end e = end
-    no_dial causes.Budget end e = end
-    no_dial causes.Memory end e = end
-    no_dial causes.DialFault end e = end
+        no_dial : (c : Stop) → CannotReopen c → Some c ≡ Some causes.DialFault → ⊥
+        no_dial (causes.Spent spent need) end e = absurd cc
+        no_dial causes.NotReopened end e = absurd cc
+        no_dial causes.LinkRead end e = end
+        no_dial causes.Closed end e = end
+        no_dial causes.Budget end e = end
+        no_dial causes.Memory end e = end
+        no_dial causes.DialFault end e = end
 
-    holds : (c : Stop) (n m : ℕ) (o : Option (List ℕ)) (k : ℕ) → CannotReopen c → StopHolds (Some c) n m o k
-    holds (causes.Spent spent need) n m o k end = tt
-    holds causes.NotReopened n m o k end = tt
-    holds causes.LinkRead n m o k end = absurd end
-    holds causes.Closed n m o k end = absurd end
-    holds causes.Budget n m o k end = absurd end
-    holds causes.Memory n m o k end = absurd end
-    holds causes.DialFault n m o k end = absurd end
+        holds : (c : Stop) (n m : ℕ) (o : Option (List ℕ)) (k : ℕ) → CannotReopen c → StopHolds (Some c) n m o k
+        holds (causes.Spent spent need) n m o k end = tt
+        holds causes.NotReopened n m o k end = tt
+        holds causes.LinkRead n m o k end = absurd end
+        holds causes.Closed n m o k end = absurd end
+        holds causes.Budget n m o k end = absurd end
+        holds causes.Memory n m o k end = absurd end
+        holds causes.DialFault n m o k end = absurd end
 
-    stays_if : (shared : InitialGiving) (x : Bool) (o : Option I) (i : Option InitialSink) → KeepsSourceIf link left given faults x (is_some (ended b.dialer.value)) shared o i read (present h) → KeepsSourceIf link left given faults x (is_some (ended b.dialer.value)) shared o i read (present_after (present h) (entries.Stopped cause previous))
-    stays_if shared x (Some source) i k = stop_if link left given faults x (is_some (ended b.dialer.value)) shared source source i read (present h) cause (HandsOut_nil (left source) (given source)) refl (omega arith) (λ no. refl) (holds cause (faults source) (faults source) (left source) read cannot) k
-    stays_if shared x None None k = absurd (lost_some (present h).write_failed (present h).stopped lost k)
-    stays_if shared x None (Some sink) k = absurd k
+        stays_if : (shared : InitialGiving) (x : Bool) (o : Option I) (i : Option InitialSink) → KeepsSourceIf link left given faults x (is_some (ended b.dialer.value)) shared o i read (present h) → KeepsSourceIf link left given faults x (is_some (ended b.dialer.value)) shared o i read (present_after (present h) (entries.Stopped cause previous))
+        stays_if shared x (Some source) i k = stop_if link left given faults x (is_some (ended b.dialer.value)) shared source source i read (present h) cause (HandsOut_nil (left source) (given source)) refl (omega arith) (λ no. refl) (holds cause (faults source) (faults source) (left source) read cannot) k
+        stays_if shared x None None k = absurd (lost_some (present h).write_failed (present h).stopped lost k)
+        stays_if shared x None (Some sink) k = absurd k
 
   -- the value of the source's turn
   pub feeds_value : (b : InitialSource I O C D) (s t : SourceReader I O C D) (h : List (InitialSource I O C D)) → h ≡ b ∷ [] → Feeds link left given faults ended dialer_faults s h → s ≡ t → FeedsFor link left given faults ended dialer_faults b t
@@ -463,3 +464,41 @@ reads_rejoined link left given faults sink_link taken sink_faults asked ended di
       read_is = r.read_is ∙ ap (λ (bs : List ℕ). b.read + length bs) (sym bytes);
       within = r.within;
     }
+
+-- ---- A turn of the pass that feeds
+
+tries_some : (o : Option ℕ) (n : ℕ) → IsTryLeft o n → is_some o ≡ true
+tries_some (Some tries) n left = refl
+tries_some None n left = absurd left
+
+pub either_way : {A B : Type 0} (x : Bool) → (x ≡ true → A) → (x ≡ false → A ⊎ B) → A ⊎ B
+either_way true same other = inl (same refl)
+either_way false same other = other refl
+
+module _ {I O C D : Type 0} (link : I → ℕ) (left given : I → Option (List ℕ)) (faults : I → ℕ) (sink_link : O → ℕ) (taken : O → Option (List ℕ)) (sink_faults : O → ℕ) (asked : D → Option (List (List ℕ))) (ended : D → Option LinkLog) (dialer_faults : D → ℕ) where
+  -- a lost link can be hung up
+  pub hangs_up : (b : InitialSource I O C D) (source : Option I) (dialer : D) (read : ℕ) (h : List Entry) → Reads link left given faults ended dialer_faults b source dialer read h → CanHangUp link sink_link taken sink_faults ended h source dialer
+  hangs_up b source dialer read h r may sink keeps =
+      let shared = shared_giving left given faults b.source.value in
+      let some = tries_some (tries_of h) (rejoins h) may.try_left in
+      can_hang_up link left given faults sink_link taken sink_faults asked ended dialer_faults shared source sink read (present h) b.dialer.value dialer
+      (subst (λ (z : Bool). KeepsSourceOf link left given faults z (is_some (ended b.dialer.value)) shared source read (present h)) some r.source_is) keeps r.dialer_is (r.open_link some)
+
+  -- the link at hand stays, or was left
+  pub reads_after : (b : InitialSource I O C D) (source source' : Option I) (dialer dialer' : D) (read : ℕ) (h k : List Entry) (addr : List ℕ) (c : InitialState) → initial_of h ≡ Some c → Reads link left given faults ended dialer_faults b source dialer read h
+      → IsUnmoved h k source source' dialer dialer' ⊎ Redials link left given faults sink_link taken sink_faults asked ended dialer_faults h k source source' dialer dialer' addr → Reads link left given faults ended dialer_faults b source' dialer' read k
+  reads_after b source source' dialer dialer' read h k addr c is r does = ⊎_elim
+      (λ (same : IsUnmoved h k source source' dialer dialer').
+      subst (λ (l : List Entry). Reads link left given faults ended dialer_faults b source' dialer' read l) (sym same.0)
+      (subst (λ (i : Option I). Reads link left given faults ended dialer_faults b i dialer' read h) (sym same.1.0) (subst (λ (d : D). Reads link left given faults ended dialer_faults b source d read h) (sym same.1.1) r)))
+      (λ (redials : Redials link left given faults sink_link taken sink_faults asked ended dialer_faults h k source source' dialer dialer' addr). ⊎_elim
+      (λ (l : Leaves link left given faults sink_link taken sink_faults asked ended dialer_faults h k source source' dialer dialer' addr).
+      subst (λ (x : List Entry). Reads link left given faults ended dialer_faults b source' dialer' read x) (sym l.seen)
+      (reads_rejoined link left given faults sink_link taken sink_faults asked ended dialer_faults b source source' dialer dialer' read h c l.was l.sink addr (place_or_none (last_feeding h)) r is l.stood (tries_some (tries_of h) (rejoins h) redials.may.try_left) redials.may.lost l.dials))
+      (λ (s : StaysLost h k source source' dialer dialer').
+      subst (λ (x : List Entry). Reads link left given faults ended dialer_faults b source' dialer' read x) (sym s.seen)
+      (subst (λ (i : Option I). Reads link left given faults ended dialer_faults b i dialer' read (h ++ stopped_after h s.cause ∷ [])) (sym s.source_is)
+      (subst (λ (d : D). Reads link left given faults ended dialer_faults b source d read (h ++ stopped_after h s.cause ∷ [])) (sym s.dialer_is)
+      (reads_stay link left given faults ended dialer_faults b source dialer read h c s.cause (place_or_none (last_feeding h)) r is redials.may.lost s.cannot))))
+      redials.does)
+      does

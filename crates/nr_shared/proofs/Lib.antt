@@ -20,6 +20,7 @@ pub mod Resting
 pub mod NextXid
 pub mod Pieces
 pub mod Rejoining
+pub mod NotLeft
 pub mod Told
 pub mod Givings
 pub mod Taking

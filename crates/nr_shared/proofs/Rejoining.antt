@@ -1,17 +1,13 @@
 -- The value stands on with a lost link that is left, and with the next one.
-use Rattle.std.proofs.Common.{◌≡◌, ◌≢◌, ◌⊎◌, ⊎_elim, ℕ, suc, ◌+◌, ◌-◌, ◌<◌, ◌≤◌, arith, eqb, ltb, cond, Bool, true, false, not, ◌||◌, ◌&&◌, if◌then◌else◌, List, [], ◌∷◌, ◌++◌, length, length-append, map, Option, Some, None, is_some, refl, sym, ap, subst, ◌∙◌, append-nil}
-use Rattle.std.specs.Prelude.{⊤}
+use Rattle.std.proofs.Common.{◌≡◌, ◌≢◌, ⊎_elim, ℕ, suc, ◌+◌, ◌<◌, ◌≤◌, arith, eqb, ltb, cond, Bool, true, false, not, ◌||◌, ◌&&◌, if◌then◌else◌, List, [], ◌∷◌, ◌++◌, length, length-append, map, Option, Some, None, is_some, refl, sym, ap, subst, ◌∙◌, append-nil}
 use Rattle.std.specs.List.{AllByRecursion, filter, find, list_any}
 use Rattle.std.specs.Io.KnownBytes.{Appends}
 use Rattle.std.proofs.KnownBytes.{Appends-nil}
-use Rattle.std.proofs.lemmas.Bool.{cases_eq, eq-eqb, eqb-true, eqb-false, ltb-false, ltb-true, ne_eqb, le-ltb}
+use Rattle.std.proofs.lemmas.Bool.{eq-eqb, ltb-false, ne_eqb, le-ltb}
 use Rattle.nr_link.specs.declared.end.End.{End}
 use Rattle.nr_link.specs.declared.end.End.TheVariants as ends
 use Rattle.nr_reduce.specs.declared.call.Call.{Call}
 use Rattle.nr_reduce.specs.declared.call.Form.{Form}
-use Rattle.nr_reduce.specs.declared.call.Refused.{Refused}
-use Rattle.nr_reduce.specs.declared.call.Refused.TheVariants as refusals
-use Rattle.nr_reduce.specs.Limits.{numbers_end}
 use Rattle.nr_reduce.specs.declared.mark.LinkParameters.{LinkParameters}
 use Rattle.nr_reduce.specs.declared.mark.Mark.{Mark}
 use Rattle.nr_reduce.specs.declared.mark.ResumedCall.{ResumedCall}
@@ -28,10 +24,10 @@ use Rattle.nr_requester.specs.declared.answer.AnsweredCall.{AnsweredCall}
 use Rattle.nr_requester.specs.EarlierLinks.{KeepsEarlierBeside}
 use Rattle.nr_requester.specs.Fed.{fed_bytes}
 use Rattle.nr_requester.specs.KeptAnswers.{HandsBack, IsAsked, KeepsAnswers, StillHolds, completed_of, is_due}
-use Rattle.nr_requester.specs.OpenCalls.{KeepsTickets, found_answer, open_call}
-use Rattle.nr_requester.specs.RequesterState.{RequesterSide, RequesterState, StoredCall, kept_call, queue_of}
-use Rattle.nr_requester.specs.ReopenedLinks.{HasOwnCalls, KeepsEarlier, RequesterKeeps, earlier_own, next_own, own_answers, own_side}
-use Rattle.nr_requester.specs.Reopening.{HasNoMark, NextIsOpened, OpensNext, ReopenStands, after_reopen, calls_again, reopen_refusal, reopen_refusal_by, stags_for_calls}
+use Rattle.nr_requester.specs.OpenCalls.{KeepsTickets, found_answer}
+use Rattle.nr_requester.specs.RequesterState.{RequesterSide, RequesterState, StoredCall, kept_call}
+use Rattle.nr_requester.specs.ReopenedLinks.{HasOwnCalls, KeepsEarlier, RequesterKeeps, earlier_own, next_own, own_answers}
+use Rattle.nr_requester.specs.Reopening.{HasNoMark, NextIsOpened, OpensNext, ReopenStands, after_reopen, calls_again, reopen_refusal, reopen_refusal_by}
 use Rattle.nr_requester.proofs.CallsGoOn.{all_answered, calls_go_on}
 use Rattle.nr_requester.proofs.EarlierBeside.{earlier_reopens}
 use Rattle.nr_requester.proofs.NoMarks.{no_marks_law}
@@ -43,17 +39,15 @@ use Rattle.nr_shared.specs.declared.entry.Stop.{Stop}
 use Rattle.nr_shared.specs.declared.entry.Stop.TheVariants as causes
 use Rattle.nr_shared.specs.declared.requester_with_sink.RequesterWithSink.{RequesterWithSink}
 use Rattle.nr_shared.specs.Draining.{initial_sink}
-use Rattle.nr_shared.specs.Histories.{PresentLink, bytes_fed, closes_of, is_feeding, is_lost_by, last_feeding, present, present_after, rejoins, stop_of, stopped_by_dial, tries_in, tries_of}
+use Rattle.nr_shared.specs.Histories.{PresentLink, bytes_fed, closes_of, is_feeding, is_lost_by, last_feeding, present, present_after, rejoins, stopped_by_dial, tries_in, tries_of}
 use Rattle.nr_shared.specs.LinkRuns.{LinkRun, OpenedLink, call_link, carries, is_of, last_carrier, links_of, next_link}
-use Rattle.nr_shared.specs.LinkStanding.{IsLeft, IsLiveOn, KeepsLinkLaw}
-use Rattle.nr_shared.specs.Output.{IsTryLeft, MayFeed, MayRejoin, MayStop}
-use Rattle.nr_shared.specs.Dialing.{CannotReopen}
+use Rattle.nr_shared.specs.LinkStanding.{IsLeft, IsLiveOn}
+use Rattle.nr_shared.specs.Output.{IsTryLeft, MayFeed, MayRejoin}
 use Rattle.nr_shared.specs.private.Needs.{GoesOn}
-use Rattle.nr_shared.specs.private.Reading.{cause_of_refusal}
 use Rattle.nr_shared.specs.Standing.{IsNumbered, IsWithin, KeepsSinkIf, KeepsSinkOf, RejoinsWithin, RepresentsHistory, RepresentsHistoryIf, Stands, is_out_of_memory, one_if, stops_told, tries_max}
 use Rattle.nr_shared.proofs.Calls.{calls_kept, closes_end}
 use Rattle.nr_shared.proofs.Chains.{chained_end}
-use Rattle.nr_shared.proofs.Histories.{allowed_end, fed_same, initial_end, present_end, rejoins_grow}
+use Rattle.nr_shared.proofs.Histories.{allowed_end, fed_same, initial_end, present_end}
 use Rattle.nr_shared.proofs.LinkRuns.{apart_from, left_is, links_end, numbers_of}
 use Rattle.nr_shared.proofs.Output.{follow_end, full_same, output_same}
 use Rattle.nr_shared.proofs.Ends.{fits_initial, outstanding_is}
@@ -498,83 +492,3 @@ module _ {O C : Type 0} (link : O → ℕ) (taken : O → Option (List ℕ)) (fa
   -- it was left less than so often
   pub rejoined_few : (m : RequesterWithSink O C) (h : List Entry) → Stands link taken faults allows m h → m.rejoined ≤ tries_max
   rejoined_few m h st = (let few = st.within.few in let is = st.rejoined in omega (arith, few, is))
-
--- ---- It can't be left
-
-spent_live : (r : RequesterState) (o : Option End) (left need : ℕ) → reopen_refusal_by r o ≡ Some (refusals.Spent left need) → o ≡ None
-spent_live r None left need is = refl
-spent_live r (Some end) left need is = absurd cc
-
-abbrev left_in : Option Refused → ℕ
-left_in (Some (refusals.Spent left need)) = left
-left_in o = 0
-
-abbrev need_in : Option Refused → ℕ
-need_in (Some (refusals.Spent left need)) = need
-need_in o = 0
-
--- so few STags are left of those that the calls need
-abbrev Spends : RequesterState → (left need : ℕ) → Type 0
-Spends r left need = (left < need) × ((left ≡ numbers_end - r.side.memory.next) × (need ≡ stags_for_calls r.outstanding))
-
-spent_by : (r : RequesterState) (left need : ℕ) (b : Bool) → ltb (numbers_end - r.side.memory.next) (stags_for_calls r.outstanding) ≡ b
-    → cond b (Some (refusals.Spent (numbers_end - r.side.memory.next) (stags_for_calls r.outstanding))) None ≡ Some (refusals.Spent left need) → Spends r left need
-spent_by r left need true less e =
-    let one : numbers_end - r.side.memory.next ≡ left = ap left_in e in
-    let two : stags_for_calls r.outstanding ≡ need = ap need_in e in
-    let under : numbers_end - r.side.memory.next < stags_for_calls r.outstanding = ltb-true (numbers_end - r.side.memory.next) (stags_for_calls r.outstanding) less in
-    (omega (arith, under, one, two), (sym one, sym two))
-spent_by r left need false less e = absurd cc
-
-refusal_spent : (r : RequesterState) (o : Option End) (left need : ℕ) → reopen_refusal_by r o ≡ Some (refusals.Spent left need) → Spends r left need
-refusal_spent r (Some end) left need is = absurd cc
-refusal_spent r None left need is = spent_by r left need (ltb (numbers_end - r.side.memory.next) (stags_for_calls r.outstanding)) refl is
-
-spent_says : (r : RequesterState) (left need : ℕ) → reopen_refusal r ≡ Some (refusals.Spent left need) → (r.side.ended ≡ None) × Spends r left need
-unfolding reopen_refusal
-spent_says r left need is = (spent_live r r.side.ended left need is, refusal_spent r r.side.ended left need is)
-
-abbrev NotMemory : Refused → Type 0
-NotMemory refusals.Memory = ⊥
-NotMemory why = ⊤
-
-first_stag : (opened : LinkParameters) (link : ℕ) (run : List Mark) → (reopened opened link run).first_stag ≡ (client opened link run).state.stag
-unfolding reopened
-first_stag opened link run = refl
-
-module _ {O C : Type 0} (link : O → ℕ) (taken : O → Option (List ℕ)) (faults : O → ℕ) (allows : Call → Form → Type 0) where
-  -- too few STags are left for the calls that would be sent again
-  pub spends : (m : RequesterWithSink O C) (h : List Entry) (left need : ℕ) → reopen_refusal m.requester.state ≡ Some (refusals.Spent left need) → MayRejoin h → Stands link taken faults allows m h → MayStop (causes.Spent left need) h
-  spends m h left need is may st =
-      let says = spent_says m.requester.state left need is in (
-        may,
-        (
-          says.1.0,
-          λ opened numbers before fits.
-              (let l = links_of opened numbers before 0 h in
-              let lost : is_lost_by m.write_failed m.stopped ≡ true = (λ i. is_lost_by (st.write_failed i) (st.stopped i)) ∙ may.lost in
-              let f = subst (λ (b : Bool). RepresentsHistoryIf b st.initial m.requester h) (lost_memory m.write_failed m.stopped lost) st.represents in
-              let on = f.1 0 opened numbers before (fits_initial h st.initial opened numbers before st.is_initial fits) in
-              let next = calls_go_on (is_of l l.at.link) on.earlier l.at.opened l.at.link m.requester l.run on.opens on.law.asked on.keeps says.0 in
-              let stags : m.requester.state.side.memory.next ≡ (client l.at.opened l.at.link l.run).state.stag = (on.keeps.keeps.kept.keeps.memory (sym on.keeps.keeps.kept.keeps.ended ∙ says.0)).next in
-              let first : (reopened l.at.opened l.at.link l.run).first_stag ≡ m.requester.state.side.memory.next = first_stag l.at.opened l.at.link l.run ∙ sym stags in
-              (says.1.1.0 ∙ ap (λ (n : ℕ). numbers_end - n) (sym first), next.stags ∙ (λ i. sym first i + sym says.1.1.1 i))),
-        ),
-      )
-
-  -- why a refusal of a reopening is told
-  pub refused_stops : (m : RequesterWithSink O C) (h : List Entry) (why : Refused) → (why ≢ refusals.Memory → reopen_refusal m.requester.state ≡ Some why) → MayRejoin h → Stands link taken faults allows m h → MayStop (cause_of_refusal why) h
-  refused_stops m h (refusals.Spent left need) says may st = spends m h left need (says (λ same. subst NotMemory same tt)) may st
-  refused_stops m h (refusals.Ended end) says may st = may
-  refused_stops m h (refusals.TooLarge need room) says may st = may
-  refused_stops m h (refusals.NoCredit out grant) says may st = may
-  refused_stops m h (refusals.Window oldest next) says may st = may
-  refused_stops m h refusals.Memory says may st = may
-
-pub cannot_reopen : (why : Refused) → CannotReopen (cause_of_refusal why)
-cannot_reopen (refusals.Spent left need) = tt
-cannot_reopen (refusals.Ended end) = tt
-cannot_reopen (refusals.TooLarge need room) = tt
-cannot_reopen (refusals.NoCredit out grant) = tt
-cannot_reopen (refusals.Window oldest next) = tt
-cannot_reopen refusals.Memory = tt

@@ -1,17 +1,10 @@
 -- A lost link is left: it is hung up, and the next one is dialled; or the requester can't be reopened, and the link stays.
-use Rattle.std.specs.Prelude.{◌≡◌, ⊤, ◌⊎◌, ℕ, List, [], ◌∷◌, ◌++◌, Option, None, Some}
+use Rattle.std.specs.Prelude.{◌≡◌, ⊤, ℕ, List, Option, None, Some}
 use Rattle.nr_outside.specs.Faults.{Rises}
 use Rattle.nr_links.specs.Asked.{Asks}
 use Rattle.nr_links.specs.Links.{EndsLink, HasOpenLink, IsNewLink, IsTold, LinkLog, MakesLink, ended_link}
-use Rattle.nr_turnstile.specs.declared.turnstile.Pass.{Pass}
-use Rattle.nr_turnstile.specs.Passes.{seen_by}
-use Rattle.nr_shared.specs.declared.entry.Entry.{Entry}
-use Rattle.nr_shared.specs.declared.entry.InitialSink.{InitialSink}
 use Rattle.nr_shared.specs.declared.entry.Stop.{Stop}
 use Rattle.nr_shared.specs.declared.entry.Stop.TheVariants as causes
-use Rattle.nr_shared.specs.declared.requester_with_sink.RequesterWithSink.{RequesterWithSink}
-use Rattle.nr_shared.specs.Adding.{Adds}
-use Rattle.nr_shared.specs.Draining.{rejoined_after, stopped_after}
 
 -- ---- The two halves of a link
 
@@ -49,15 +42,3 @@ abbrev pub CannotReopen : Stop → Type 0
 CannotReopen (causes.Spent left need) = ⊤
 CannotReopen causes.NotReopened = ⊤
 CannotReopen cause = ⊥
-
--- The pass adds the Rejoin, with the sink that the value has then, and has seen no other entry.
-pub record Rejoins {O C : Type 0} (p q : Pass (RequesterWithSink O C) Entry) (sink : Option InitialSink) : Type 0 where
-  pub adds : Adds p q (rejoined_after (seen_by p) sink ∷ [])
-  pub seen : seen_by q ≡ seen_by p ++ rejoined_after (seen_by p) sink ∷ []
-
--- The requester can't be reopened: the pass adds why.
-pub record Stays {O C : Type 0} (p q : Pass (RequesterWithSink O C) Entry) : Type 0 where
-  pub cause : Stop
-  pub cannot : CannotReopen cause
-  pub adds : Adds p q (stopped_after (seen_by p) cause ∷ [])
-  pub seen : seen_by q ≡ seen_by p ++ stopped_after (seen_by p) cause ∷ []

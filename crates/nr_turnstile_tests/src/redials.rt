@@ -16,8 +16,12 @@ use std::process::Abort;
 use std::sync::{Arc, Wait};
 use std::thread::{self, Threads};
 
-type Redialled =
-    SharedRequester<Counted<MemSource>, Counted<MemSink>, AnyCall, HeldDialer<MemDialer>>;
+type Redialled = SharedRequester<
+    Counted<MemSource>,
+    Counted<MemSink>,
+    AnyCall,
+    HeldDialer<MemDialer>,
+>;
 
 type Caller = Pass<Counted<MemSource>, Counted<MemSink>, AnyCall, HeldDialer<MemDialer>>;
 
@@ -78,12 +82,7 @@ const NFS: u32 = 100003;
 const ADDR: &str = "server:20049";
 
 /// A link: the XIDs of the replies that it gives after the server's hello, at most so many bytes, and the reads and the writes that fail.
-type Cut = (
-    &'static [u32],
-    usize,
-    &'static [usize],
-    &'static [usize],
-);
+type Cut = (&'static [u32], usize, &'static [usize], &'static [usize]);
 
 /// The links, the dials that fail, how often a lost link may be dialled again, what two calls are answered, how many links were made and hung up,
 /// and whether there is a link at the end.
@@ -103,29 +102,169 @@ static ROWS: [Row; 20] = [
     // Nothing is lost.
     (&[(&[1, 2], 1024, &[], &[])], &[], 1, OK, 1, 0, true),
     // Each read fails in turn: that of the hello, and that of each reply.
-    (&[(&[1, 2], 1024, &[0], &[]), (&[1, 2], 1024, &[], &[])], &[], 1, OK, 2, 1, true),
-    (&[(&[1, 2], 1024, &[1], &[]), (&[1, 2], 1024, &[], &[])], &[], 1, OK, 2, 1, true),
-    (&[(&[1, 2], 1024, &[2], &[]), (&[2], 1024, &[], &[])], &[], 1, OK, 2, 1, true),
+    (
+        &[(&[1, 2], 1024, &[0], &[]), (&[1, 2], 1024, &[], &[])],
+        &[],
+        1,
+        OK,
+        2,
+        1,
+        true,
+    ),
+    (
+        &[(&[1, 2], 1024, &[1], &[]), (&[1, 2], 1024, &[], &[])],
+        &[],
+        1,
+        OK,
+        2,
+        1,
+        true,
+    ),
+    (
+        &[(&[1, 2], 1024, &[2], &[]), (&[2], 1024, &[], &[])],
+        &[],
+        1,
+        OK,
+        2,
+        1,
+        true,
+    ),
     (&[(&[1, 2], 1024, &[3], &[])], &[], 1, OK, 1, 0, true),
     // Each write: that of the hello, and that of each call.
-    (&[(&[1, 2], 1024, &[], &[0]), (&[1, 2], 1024, &[], &[])], &[], 1, OK, 2, 1, true),
-    (&[(&[1, 2], 1024, &[], &[1]), (&[1, 2], 1024, &[], &[])], &[], 1, OK, 2, 1, true),
-    (&[(&[1, 2], 1024, &[], &[2]), (&[2], 1024, &[], &[])], &[], 1, OK, 2, 1, true),
+    (
+        &[(&[1, 2], 1024, &[], &[0]), (&[1, 2], 1024, &[], &[])],
+        &[],
+        1,
+        OK,
+        2,
+        1,
+        true,
+    ),
+    (
+        &[(&[1, 2], 1024, &[], &[1]), (&[1, 2], 1024, &[], &[])],
+        &[],
+        1,
+        OK,
+        2,
+        1,
+        true,
+    ),
+    (
+        &[(&[1, 2], 1024, &[], &[2]), (&[2], 1024, &[], &[])],
+        &[],
+        1,
+        OK,
+        2,
+        1,
+        true,
+    ),
     (&[(&[1, 2], 1024, &[], &[3])], &[], 1, OK, 1, 0, true),
     // The server ends its stream: before its hello, after it, in a frame, and after one.
-    (&[(&[1, 2], 0, &[], &[]), (&[1, 2], 1024, &[], &[])], &[], 1, OK, 2, 1, true),
-    (&[(&[1, 2], 20, &[], &[]), (&[1, 2], 1024, &[], &[])], &[], 1, OK, 2, 1, true),
-    (&[(&[1, 2], 95, &[], &[]), (&[1, 2], 1024, &[], &[])], &[], 1, OK, 2, 1, true),
-    (&[(&[1, 2], 96, &[], &[]), (&[2], 1024, &[], &[])], &[], 1, OK, 2, 1, true),
+    (
+        &[(&[1, 2], 0, &[], &[]), (&[1, 2], 1024, &[], &[])],
+        &[],
+        1,
+        OK,
+        2,
+        1,
+        true,
+    ),
+    (
+        &[(&[1, 2], 20, &[], &[]), (&[1, 2], 1024, &[], &[])],
+        &[],
+        1,
+        OK,
+        2,
+        1,
+        true,
+    ),
+    (
+        &[(&[1, 2], 95, &[], &[]), (&[1, 2], 1024, &[], &[])],
+        &[],
+        1,
+        OK,
+        2,
+        1,
+        true,
+    ),
+    (
+        &[(&[1, 2], 96, &[], &[]), (&[2], 1024, &[], &[])],
+        &[],
+        1,
+        OK,
+        2,
+        1,
+        true,
+    ),
     // The next link is lost too.
-    (&[(&[1, 2], 20, &[], &[]), (&[1, 2], 0, &[], &[]), (&[1, 2], 1024, &[], &[])], &[], 2, OK, 3, 2, true),
-    (&[(&[1, 2], 20, &[], &[]), (&[1, 2], 0, &[], &[])], &[], 1, (Answer::Tries, Answer::Tries), 2, 1, true),
-    (&[(&[1, 2], 1024, &[0], &[])], &[], 0, (Answer::Tries, Answer::Tries), 1, 0, true),
-    (&[(&[1, 2], 96, &[], &[]), (&[2], 1024, &[], &[0])], &[], 1, (Answer::Reply, Answer::Tries), 2, 1, true),
+    (
+        &[
+            (&[1, 2], 20, &[], &[]),
+            (&[1, 2], 0, &[], &[]),
+            (&[1, 2], 1024, &[], &[]),
+        ],
+        &[],
+        2,
+        OK,
+        3,
+        2,
+        true,
+    ),
+    (
+        &[(&[1, 2], 20, &[], &[]), (&[1, 2], 0, &[], &[])],
+        &[],
+        1,
+        (Answer::Tries, Answer::Tries),
+        2,
+        1,
+        true,
+    ),
+    (
+        &[(&[1, 2], 1024, &[0], &[])],
+        &[],
+        0,
+        (Answer::Tries, Answer::Tries),
+        1,
+        0,
+        true,
+    ),
+    (
+        &[(&[1, 2], 96, &[], &[]), (&[2], 1024, &[], &[0])],
+        &[],
+        1,
+        (Answer::Reply, Answer::Tries),
+        2,
+        1,
+        true,
+    ),
     // Each dial but the first one fails in turn.
-    (&[(&[1, 2], 20, &[], &[]), (&[1, 2], 0, &[], &[])], &[1], 16, (Answer::DialFault, Answer::DialFault), 1, 1, false),
-    (&[(&[1, 2], 20, &[], &[]), (&[1, 2], 0, &[], &[])], &[2], 16, (Answer::DialFault, Answer::DialFault), 2, 2, false),
-    (&[(&[1, 2], 96, &[], &[]), (&[2], 1024, &[], &[])], &[1], 16, (Answer::Reply, Answer::DialFault), 1, 1, false),
+    (
+        &[(&[1, 2], 20, &[], &[]), (&[1, 2], 0, &[], &[])],
+        &[1],
+        16,
+        (Answer::DialFault, Answer::DialFault),
+        1,
+        1,
+        false,
+    ),
+    (
+        &[(&[1, 2], 20, &[], &[]), (&[1, 2], 0, &[], &[])],
+        &[2],
+        16,
+        (Answer::DialFault, Answer::DialFault),
+        2,
+        2,
+        false,
+    ),
+    (
+        &[(&[1, 2], 96, &[], &[]), (&[2], 1024, &[], &[])],
+        &[1],
+        16,
+        (Answer::Reply, Answer::DialFault),
+        1,
+        1,
+        false,
+    ),
 ];
 
 /// The plan of a link.
@@ -276,7 +415,10 @@ fn beside_a_dial<R: Threads + Wait + Sync>(
 fn a_dial_holds_the_turn(rt: HostRuntime) {
     let peer = Arc::new(rt.alloc(), Peer::new()).expect(&rt, "memory");
     let lent = Arc::try_clone(&peer).expect(&rt, "memory");
-    let cuts = [(&[1][..], 20, &[][..], &[][..]), (&[1][..], 1024, &[][..], &[][..])];
+    let cuts = [
+        (&[1][..], 20, &[][..], &[][..]),
+        (&[1][..], 1024, &[][..], &[][..]),
+    ];
     let dialer = dialer(&rt, rt.alloc(), &cuts, &[], lent, 1);
     let (shared, mut pass) = share(&rt, rt.alloc(), dialer, 1);
     let told = beside_a_dial(&rt, rt.alloc(), &shared, &mut pass, &peer);

@@ -60,6 +60,6 @@ pub record Redials {I O D : Type 0} (source_link : I → ℕ) (left given : I �
   pub may : MayRejoin h
   pub does : Leaves source_link left given source_faults sink_link taken sink_faults asked ended faults h k source source' dialer dialer' addr ⊎ StaysLost h k source source' dialer dialer'
 
--- whatever sink the history stands for, the link can be hung up with it
+-- If a lost link is left, it can be hung up with the sink that the history stands for, whichever that is.
 abbrev pub CanHangUp : {I O D : Type 0} → (source_link : I → ℕ) → (sink_link : O → ℕ) → (taken : O → Option (List ℕ)) → (sink_faults : O → ℕ) → (ended : D → Option LinkLog) → List Entry → Option I → D → Type 0
-CanHangUp {O = O} source_link sink_link taken sink_faults ended h source dialer = (sink : Option O) → KeepsSinkOf sink_link taken sink_faults sink (present h) → HasLink source_link sink_link ended source sink dialer
+CanHangUp {O = O} source_link sink_link taken sink_faults ended h source dialer = MayRejoin h → (sink : Option O) → KeepsSinkOf sink_link taken sink_faults sink (present h) → HasLink source_link sink_link ended source sink dialer

@@ -24,7 +24,7 @@ pub redial-requires-clause-link : goal.redial-requires-clause-link
 redial-requires-clause-link g c =
     let r = c.requires.ready in let f = c.value-with_sink.result.now in let seen = seen_by (pass_of c.args.turn.now) in
     let st : Stands g.O.LinkSink.link g.O.Sink.taken g.O.Sink.faults g.C.CallRule.allows f seen = subst (λ (z : RequesterWithSink g.row.O.Denot g.row.C.Denot). Stands g.O.LinkSink.link g.O.Sink.taken g.O.Sink.faults g.C.CallRule.allows z seen) (same_value _ r.value f r.has.1 c.value-with_sink.ensures.value) r.stands in
-    c.requires.link f.sink st.sink
+    c.requires.link c.requires.may f.sink st.sink
 
 pub append_rejoin-requires-clause-value : goal.append_rejoin-requires-clause-value
 append_rejoin-requires-clause-value g c = (c.redial.new.self, (c.requires.ready.has.0, written _ _ c.redial.new.self c.value-with_sink.ensures.value, c.requires.ready.has.2))

@@ -17,8 +17,8 @@ use Rattle.nr_shared.proofs.turns.drain_under.Goals as goal
 
 pub drain-drained-requires : goal.drain-drained-requires
 drain-drained-requires g c = let r = c.requires.ready in record {
-      stands = (seen_by (pass_of c.args.turn.now), subst (λ (z : RequesterWithSink g.row.O.Denot g.row.C.Denot). Stands g.O.LinkSink.link g.O.Sink.taken g.O.Sink.faults g.C.CallRule.allows z (seen_by (pass_of c.args.turn.now))) (same_value _ r.value c.value-with_sink.result.now r.has.1 c.value-with_sink.ensures.value) r.stands);
-    }
+  stands = (seen_by (pass_of c.args.turn.now), subst (λ (z : RequesterWithSink g.row.O.Denot g.row.C.Denot). Stands g.O.LinkSink.link g.O.Sink.taken g.O.Sink.faults g.C.CallRule.allows z (seen_by (pass_of c.args.turn.now))) (same_value _ r.value c.value-with_sink.result.now r.has.1 c.value-with_sink.ensures.value) r.stands);
+}
 
 pub returns-in-Nothing-clause-ready : goal.returns-in-Nothing-clause-ready
 returns-in-Nothing-clause-ready g c =

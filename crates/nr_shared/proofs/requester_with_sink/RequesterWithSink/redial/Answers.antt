@@ -11,7 +11,8 @@ use Rattle.nr_shared.specs.Dialing.{CannotReopen}
 use Rattle.nr_shared.specs.Output.{MayRejoin, MayStop}
 use Rattle.nr_shared.specs.Standing.{Stands}
 use Rattle.nr_shared.specs.private.Reading.{cause_of_refusal}
-use Rattle.nr_shared.proofs.Rejoining.{leaves, spends}
+use Rattle.nr_shared.proofs.NotLeft.{spends}
+use Rattle.nr_shared.proofs.Rejoining.{leaves}
 use Rattle.nr_shared.proofs.requester_with_sink.RequesterWithSink.redial.Goals as goal
 
 module _ {O C : Type 0} (link : O → ℕ) (taken : O → Option (List ℕ)) (faults : O → ℕ) (allows : Call → Form → Type 0) where
