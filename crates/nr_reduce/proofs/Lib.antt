@@ -34,6 +34,7 @@ pub mod Offers
 pub mod Outlining
 pub mod CallForms
 pub mod InPlace
+pub mod PlacedPayloads
 pub mod Answering
 pub mod Asking
 pub mod WrittenChunks

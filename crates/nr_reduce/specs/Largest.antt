@@ -13,7 +13,7 @@ use Rattle.nr_nfs_base.specs.declared.procedure.NfsProcedure.{NfsProcedure}
 use Rattle.nr_nfs_base.specs.declared.procedure.NfsProcedure.TheVariants as nfs
 use Rattle.nr_nfs_base.specs.Fronts.{read_args_front, readdir_args_front, readdirplus_args_front}
 use Rattle.nr_nfs_base.specs.Limits.{link_target_max, listing_max, transfer_max}
-use Rattle.nr_reduce.specs.Items.{READ, is_nfs, from_place}
+use Rattle.nr_reduce.specs.Items.{READ, READLINK, is_nfs, from_place}
 
 -- the procedures that list directories, and MOUNT's that gives a handle (RFC 1813 sections 3.3.16, 3.3.17, 5.2.1)
 abbrev pub READDIR : ℕ
@@ -101,3 +101,11 @@ target_reply_max payload (Some t) = program_reply_max t.prog t.vers t.proc (from
 
 unfoldable pub largest_reply : List ℕ → ℕ
 largest_reply payload = target_reply_max payload (target_of (call_of payload))
+
+-- Where the item of a reply is expected: after the head of an accepted reply with an empty verifier (24 bytes), the status, the file's attributes and,
+-- of a READ, its count and its end of file, and the item's length word.
+abbrev pub expected_item_at : (prog vers proc : ℕ) → ℕ
+expected_item_at prog vers proc =
+    if is_nfs prog vers && proc == READ then 128
+    else (if is_nfs prog vers && proc == READLINK then 120
+    else 0)

@@ -10,6 +10,7 @@ pub mod PlanSizes
 pub mod CallOutlines
 pub mod Cuts
 pub mod PayloadRoom
+pub mod PlacedPayloads
 pub mod ReplyParts
 pub mod History
 pub mod PlainJournal

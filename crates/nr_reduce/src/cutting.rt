@@ -1,6 +1,6 @@
 //! A payload cut at its item, and put together again (RFC 8166 section 3.4.1).
 
-ghost use Rattle.std.specs.Prelude.{◌≡◌, ◌+◌, ◌==◌, ◌<◌, ◌≤◌, ◌++◌, length, take, drop, replicate, Some, IfOk, IfErr, IfSome, OnErr};
+ghost use Rattle.std.specs.Prelude.{◌≡◌, ◌+◌, ◌-◌, ◌==◌, ◌<◌, ◌≤◌, ◌++◌, length, take, drop, replicate, Some, IfOk, IfErr, IfSome, OnErr};
 ghost use Rattle.std.specs.List.{list_all};
 ghost use Rattle.nr_xdr.specs.Item.{pad_len};
 ghost use Rattle.nr_reduce.specs.Items.{item_of, ends_with_item, reducible_item, stream_of, moved_of, restored_payload};
@@ -261,14 +261,16 @@ fn put_at(buffer: &mut Octets, at: usize, bytes: &[u8]) -> usize
     end
 }
 
-/// Completes a payload in the buffer that holds its item's bytes at the item's position, and gives its length.
+/// Completes a payload in the buffer that holds its item's bytes at the item's position, and gives its length. The bytes after it stay.
 #[tactic(auto, unfolding(crate::specs::Items::restored_payload))]
-fn complete(buffer: &mut Octets, stream: &[u8], item: &Item) -> usize
+pub(crate) fn complete(buffer: &mut Octets, stream: &[u8], item: &Item) -> usize
     requires place { item.now.pos ≤ length stream.now }
     requires room { length stream.now + item.now.len + 3 ≤ length buffer.old }
     ensures payload { take result buffer.new ≡ restored_payload item.now stream.now (drop item.now.pos buffer.old) }
     ensures within { result ≤ length buffer.new }
     ensures length { length buffer.new ≡ length buffer.old }
+    ensures after { drop result buffer.new ≡ drop result buffer.old }
+    ensures end { result ≡ item.now.pos + (item.now.len + (pad_len item.now.len + (length stream.now - item.now.pos))) }
 {
     let len = item.len as usize;
     let (front, behind) = stream.split_at(item.pos);

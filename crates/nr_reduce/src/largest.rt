@@ -2,7 +2,7 @@
 
 ghost use Rattle.std.specs.Prelude.{◌≡◌, ◌+◌, ◌<◌, ◌≤◌};
 ghost use Rattle.nr_reduce.specs.private.AfterFront.{number_after};
-ghost use Rattle.nr_reduce.specs.Largest.{padded_length, by_count, read_reply_max, readdir_reply_max, limit_of, nfs_reply_max, program_reply_max, largest_reply};
+ghost use Rattle.nr_reduce.specs.Largest.{padded_length, by_count, read_reply_max, readdir_reply_max, limit_of, nfs_reply_max, program_reply_max, largest_reply, expected_item_at};
 
 use crate::item::is_nfs;
 use crate::limits::{
@@ -106,6 +106,21 @@ pub(crate) fn program_reply_max(prog: u32, vers: u32, proc: u32, arguments: Read
         108
     } else {
         REPLY_LIMIT_MIN
+    }
+}
+
+/// Where the item of the reply to a call stands, if the reply has the attributes of its file and an empty verifier, as this server's
+/// replies do (RFC 1813 sections 3.3.5 and 3.3.6); 0 if its reply has no item.
+pub fn expected_item_at(prog: u32, vers: u32, proc: u32) -> usize
+    ensures { result ≡ expected_item_at prog vers proc }
+{
+    if !is_nfs(prog, vers) {
+        return 0;
+    }
+    match proc {
+        READ => 128,
+        READLINK => 120,
+        _ => 0,
     }
 }
 

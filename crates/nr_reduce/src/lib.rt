@@ -28,6 +28,7 @@ mod memory_laws;
 mod outline;
 mod parts;
 mod payload_buffer;
+mod placed_payload;
 mod planning;
 mod reading;
 mod replying;
@@ -47,7 +48,7 @@ pub use holding::{Answer, answer_for, holds};
 pub use item::{
     Cut, Item, Of, ReplyParts, call_item, item_of, reply_item, reply_item_of, reply_parts,
 };
-pub use largest::largest_reply;
+pub use largest::{expected_item_at, largest_reply};
 pub use laws::{answers_convey_replies, plans_convey_payloads, rebuild_undoes_cut};
 pub use limits::{CREDITS_MAX, GIVEN_MAX};
 pub use mark::{Entry, LinkParameters, Mark, Marks, ResumedCall, ResumedCalls, TaggedEntry, Told};
@@ -55,6 +56,7 @@ pub use memory_laws::{memory_follows_regions, regions_go_on};
 pub use outline::{ChunkLengths, Outline, Plan, ReadOutline};
 pub use parts::{CallParts, call_item_of, call_parts, largest_reply_of, written_parts};
 pub use payload_buffer::PayloadBuffer;
+pub use placed_payload::PlacedPayload;
 pub use planning::{outline_of, plan};
 pub use reading::{is_read_chunk_of, is_read_chunk_of_item, item_position, total_at};
 pub use replying::{answer_header, answer_lists, answer_message};
