@@ -9,7 +9,7 @@ use Rattle.nr_reduce.specs.History.{CompletedCall, completed_calls}
 use Rattle.nr_reduce.specs.OutcomesDue.{is_completed}
 use Rattle.nr_reduce.specs.Run.{client}
 use Rattle.nr_reduce.specs.Asked.{IsAwaited}
-use Rattle.nr_requester.specs.declared.answer.AnsweredCall.{AnsweredCall}
+use Rattle.nr_requester.specs.AnsweredCalls.{AnsweredCall}
 use Rattle.nr_requester.specs.RequesterState.{RequesterSide, StoredCall}
 use Rattle.nr_requester.specs.AfterCalls.{after_drain}
 use Rattle.nr_requester.specs.KeptAnswers.{is_due, completed_of}

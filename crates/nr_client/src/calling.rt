@@ -16,7 +16,7 @@ use crate::call_end::CallEnd;
 use crate::transfer::{transfer, write_due};
 use nr_outside::{Sink, Source};
 use nr_reduce::{Call, Form, Outcome, Refused};
-use nr_requester::{Done, Requester, Take, Ticket};
+use nr_requester::{Requester, Take, Ticket};
 
 /// Whether no credit is left, or the next xid is too far above the least one. Then a call is outstanding.
 fn lacks_credit(requester: &Requester) -> bool
@@ -143,19 +143,11 @@ fn take_outcome(requester: &mut Requester, ticket: Ticket) -> Outcome
     ensures tickets { ClosesTicket ticket requester.old.state requester.new.state }
     ensures fed { fed_bytes requester.new ≡ fed_bytes requester.old }
 {
-    let done = match requester.try_take(ticket) {
-        Take::Done(done) => done,
+    match requester.try_take(ticket) {
+        Take::Done(done) => done.into_outcome(),
         Take::NotYet(_) => unreachable!(),
         Take::Failed { .. } => unreachable!(),
-    };
-    let Done {
-        call,
-        buffers,
-        outcome,
-    } = done;
-    drop(call);
-    drop(buffers);
-    outcome
+    }
 }
 
 /// Waits for the answer to a call that was submitted. If there is none, the call is forgotten.

@@ -10,7 +10,7 @@ use crate::jobs::{PieceRead, ReadJob};
 use crate::read_data::piece_left;
 use nr_outside::{Sink, Source};
 use nr_reduce::Form;
-use nr_requester::{Done, Ticket};
+use nr_requester::{Ticket};
 use nr_shared::{CallRule, Pass, SharedRequester};
 use std::sync::Wait;
 
@@ -94,16 +94,10 @@ fn take_all<R: Wait, I: Source, O: Sink, C: CallRule>(
 {
     'pieces: while asked.len() > 0 {
         let AskedPiece { at, ticket } = asked.remove(0);
-        let Done {
-            call,
-            buffers,
-            outcome,
-        } = match shared.wait(rt, &mut job.pass, ticket) {
-            Ok(done) => done,
+        let outcome = match shared.wait(rt, &mut job.pass, ticket) {
+            Ok(done) => done.into_outcome(),
             Err(_) => return,
         };
-        drop(call);
-        drop(buffers);
         match job.fetched.push(PieceRead { at, outcome }) {
             Ok(()) => {}
             Err(_) => return,

@@ -21,7 +21,7 @@ use crate::call_end::CallEnd;
 use crate::client_end::ClientEnd;
 use nr_outside::{Sink, Source};
 use nr_reduce::{Call, Form, Outcome};
-use nr_requester::{Done, Requester};
+use nr_requester::{Requester};
 use nr_shared::{Appended, CallRule, InitialHistory, Pass, SharedRequester};
 use nr_xdr::Memory;
 use std::alloc::Global;
@@ -74,14 +74,7 @@ pub(crate) fn outcome_of<R: Wait, I: Source, O: Sink, C: CallRule>(
     };
     match shared.call(rt, pass, call, Form::Auto) {
         Ok(done) => {
-            let Done {
-                call,
-                buffers,
-                outcome,
-            } = done;
-            drop(call);
-            drop(buffers);
-            Ok(outcome)
+            Ok(done.into_outcome())
         }
         Err(end) => Err(ClientEnd::Link(CallEnd::of_shared(end))),
     }

@@ -1,10 +1,11 @@
 -- Several calls of an owner at once, all or none: a Send with the buffers that it offers to the peer, and RDMA Writes before a Send.
-use Rattle.std.specs.Prelude.{ℕ, ◌+◌, ◌^◌, ◌≤◌, List, [], ◌∷◌, ◌++◌, length, map, if◌then◌else◌, Option, None, Some, IfSome}
+use Rattle.std.specs.Prelude.{ℕ, ◌+◌, ◌^◌, ◌≤◌, List, [], ◌∷◌, ◌++◌, length, map, if◌then◌else◌, Option, None, Some, IfSome, option_map}
 use Rattle.nr_regions.specs.declared.right.Right.{Right}
 use Rattle.nr_regions.specs.declared.right.Right.TheVariants.{Fetch, Fill}
 use Rattle.std.specs.Ordering.{nat_cmp}
 use Rattle.std.specs.FinMap.{FinMap, insert}
 use Rattle.nr_regions.specs.RegisteredMemory.{RegisteredMemory, Claim, IsHeld, Outside, after_register, claim_of, nothing_outside}
+use Rattle.nr_regions.specs.Windows.{BufferParts}
 use Rattle.nr_link.specs.Output.{write}
 use Rattle.nr_endpoint.specs.declared.offering.Offered.{Offered}
 use Rattle.nr_endpoint.specs.declared.offering.Claims.{Claims}
@@ -21,9 +22,13 @@ abbrev pub one_of : Option (List ℕ) → ℕ
 one_of None = 0
 one_of (Some buf) = 1
 
+-- the bytes of a part of a buffer
+abbrev pub part_bytes : Option BufferParts → Option (List ℕ)
+part_bytes part = option_map (λ (p : BufferParts). p.bytes) part
+
 -- how many buffers there are
 abbrev pub offered_count : Offered → ℕ
-offered_count o = one_of o.read + (one_of o.write + one_of o.reply)
+offered_count o = one_of o.read + (one_of (part_bytes o.write) + one_of o.reply)
 
 abbrev pub register_call : Right → Option (List ℕ) → List Call
 register_call right None = []
@@ -31,7 +36,7 @@ register_call right (Some buf) = Register buf right ∷ []
 
 -- the Send, and then the registrations: of a buffer to be read, and of those to be filled by a write chunk and by a reply chunk
 abbrev pub offer_calls : List ℕ → Offered → List Call
-offer_calls message o = Send message ∷ (register_call Fetch o.read ++ (register_call Fill o.write ++ register_call Fill o.reply))
+offer_calls message o = Send message ∷ (register_call Fetch o.read ++ (register_call Fill (part_bytes o.write) ++ register_call Fill o.reply))
 
 abbrev pub with_buffer : RegisteredMemory → Right → Option (List ℕ) → RegisteredMemory
 with_buffer m right None = m
@@ -40,6 +45,11 @@ with_buffer m right (Some buf) = after_register m right buf
 abbrev pub outside_buffer : RegisteredMemory → Option (List ℕ) → FinMap nat_cmp Outside → FinMap nat_cmp Outside
 outside_buffer m None outside = outside
 outside_buffer m (Some buf) outside = insert outside m.next nothing_outside
+
+-- what is outside a part stays with its region
+abbrev pub outside_part : RegisteredMemory → Option BufferParts → FinMap nat_cmp Outside → FinMap nat_cmp Outside
+outside_part m None outside = outside
+outside_part m (Some part) outside = insert outside m.next part.outside
 
 abbrev pub claim_if : RegisteredMemory → Option (List ℕ) → Option Claim
 claim_if m None = None
@@ -50,18 +60,18 @@ abbrev pub with_read : RegisteredMemory → Offered → RegisteredMemory
 with_read m o = with_buffer m Fetch o.read
 
 abbrev pub with_write_buffer : RegisteredMemory → Offered → RegisteredMemory
-with_write_buffer m o = with_buffer (with_read m o) Fill o.write
+with_write_buffer m o = with_buffer (with_read m o) Fill (part_bytes o.write)
 
 abbrev pub with_offered : RegisteredMemory → Offered → RegisteredMemory
 with_offered m o = with_buffer (with_write_buffer m o) Fill o.reply
 
--- nothing is outside any of their regions
+-- nothing is outside their regions but what is outside the part that a write chunk fills
 abbrev pub outside_offered : RegisteredMemory → Offered → FinMap nat_cmp Outside → FinMap nat_cmp Outside
 outside_offered m o outside =
-    outside_buffer (with_write_buffer m o) o.reply (outside_buffer (with_read m o) o.write (outside_buffer m o.read outside))
+    outside_buffer (with_write_buffer m o) o.reply (outside_part (with_read m o) o.write (outside_buffer m o.read outside))
 
 abbrev pub claims_of : RegisteredMemory → Offered → Claims
-claims_of m o = record { read = claim_if m o.read; write = claim_if (with_read m o) o.write; reply = claim_if (with_write_buffer m o) o.reply }
+claims_of m o = record { read = claim_if m o.read; write = claim_if (with_read m o) (part_bytes o.write); reply = claim_if (with_write_buffer m o) o.reply }
 
 -- each registration is held
 abbrev pub AreHeld : RegisteredMemory → Claims → Type 0
@@ -75,7 +85,7 @@ after_offer message o s = record s {
 
 -- the same with a Send that is held back
 abbrev pub hold_calls : List ℕ → Offered → List Call
-hold_calls message o = Hold message ∷ (register_call Fetch o.read ++ (register_call Fill o.write ++ register_call Fill o.reply))
+hold_calls message o = Hold message ∷ (register_call Fetch o.read ++ (register_call Fill (part_bytes o.write) ++ register_call Fill o.reply))
 
 abbrev pub after_hold : List ℕ → Offered → LinkState → LinkState
 after_hold message o s = record s {

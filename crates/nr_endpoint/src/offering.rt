@@ -1,17 +1,18 @@
 //! Several calls of an owner at once, all or none.
 
 ghost use Rattle.std.specs.Prelude.{◌≡◌, ◌+◌, ◌^◌, ◌<◌, ◌≤◌, ◌++◌, length, false, if◌then◌else◌, All, OnOk, OnErr, IfOk, IfErr};
+ghost use Rattle.nr_regions.specs.declared.right.Right.TheVariants.{Fill};
 ghost use Rattle.nr_endpoint.specs.LinkState.{has_ended};
 ghost use Rattle.nr_endpoint.specs.SendQueue.{with_send, with_held};
 ghost use Rattle.nr_endpoint.specs.Calls.{after_calls, StandsOnAll};
-ghost use Rattle.nr_endpoint.specs.Offering.{one_of, offered_count, offer_calls, with_buffer, claim_if, with_offered, outside_buffer, outside_offered, claims_of, AreHeld, after_offer, hold_calls, after_hold, FitsRegion, FitsSharedRegion, answer_calls, after_answer, shared_calls, after_shared};
+ghost use Rattle.nr_endpoint.specs.Offering.{one_of, offered_count, offer_calls, with_buffer, claim_if, with_offered, outside_buffer, outside_offered, outside_part, part_bytes, claims_of, AreHeld, after_offer, hold_calls, after_hold, FitsRegion, FitsSharedRegion, answer_calls, after_answer, shared_calls, after_shared};
 
 use crate::endpoint::Endpoint;
 use crate::framing::RemoteWrite;
 use crate::link::LinkSide;
 use crate::send_queue::SendQueue;
 use crate::sharing::SharedWrite;
-use nr_regions::{Regions, Registration, Right};
+use nr_regions::{Regions, Registration, Right, Window};
 use nr_xdr::{Memory, Octets};
 
 /// Buffers for the peer to read, and to fill: by a write chunk and by a reply chunk.
@@ -19,8 +20,8 @@ use nr_xdr::{Memory, Octets};
 pub struct Offered {
     /// The peer may read it.
     pub read: Option<Octets>,
-    /// The peer may fill it by a write chunk.
-    pub write: Option<Octets>,
+    /// The peer may fill this part of a buffer by a write chunk.
+    pub write: Option<Window>,
     /// The peer may fill it by a reply chunk.
     pub reply: Option<Octets>,
 }
@@ -56,6 +57,26 @@ fn register_some(regions: &mut Regions, buf: Option<Octets>, right: Right) -> Op
     }
 }
 
+/// Registers a part of a buffer, if there is one, for the peer to fill. There is room for it.
+fn register_part(regions: &mut Regions, part: Option<Window>) -> Option<Registration>
+    requires room { one_of (part_bytes part) ≤ regions.old.room }
+    requires stags { regions.old.memory.next + one_of (part_bytes part) ≤ 2 ^ 32 }
+    ensures memory { regions.new.memory ≡ with_buffer regions.old.memory Fill (part_bytes part) }
+    ensures claim { result ≡ claim_if regions.old.memory (part_bytes part) }
+    ensures next { regions.new.memory.next ≡ regions.old.memory.next + one_of (part_bytes part) }
+    ensures left { regions.old.room ≤ regions.new.room + one_of (part_bytes part) }
+    ensures outside { regions.new.outside ≡ outside_part regions.old.memory part regions.old.outside }
+{
+    let part = match part {
+        None => return None,
+        Some(part) => part,
+    };
+    match regions.register_part(part, Right::Fill) {
+        Ok(claim) => Some(claim),
+        Err(_) => unreachable!(),
+    }
+}
+
 /// Registers the buffers in their order. There is room for them.
 fn register_offered(regions: &mut Regions, offered: Offered) -> Claims
     requires room { offered_count offered ≤ regions.old.room }
@@ -67,7 +88,7 @@ fn register_offered(regions: &mut Regions, offered: Offered) -> Claims
 {
     let Offered { read, write, reply } = offered;
     let read = register_some(regions, read, Right::Fetch);
-    let write = register_some(regions, write, Right::Fill);
+    let write = register_part(regions, write);
     let reply = register_some(regions, reply, Right::Fill);
     Claims { read, write, reply }
 }

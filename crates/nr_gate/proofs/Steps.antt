@@ -8,7 +8,7 @@ use Rattle.nr_rpc.specs.declared.head.CallHead.TheVariants as calls
 use Rattle.nr_rpc.specs.declared.head.ReplyHead.TheVariants as replies
 use Rattle.nr_reduce.specs.declared.call.Call.{Call}
 use Rattle.nr_reduce.specs.declared.call.Form.TheVariants as forms
-use Rattle.nr_requester.specs.declared.taking.Done.{Done}
+use Rattle.nr_requester.specs.AnsweredCalls.{Done}
 use Rattle.nr_turnstile.specs.declared.turnstile.Pass.{Pass}
 use Rattle.nr_record_loop.specs.Connections.{Exchange, HasReason}
 use Rattle.nr_record_loop.specs.declared.answering.NoReply.{NoReply}

@@ -10,7 +10,7 @@ use Rattle.nr_reduce.specs.declared.call.Call.{Call}
 use Rattle.nr_reduce.specs.declared.call.Form.TheVariants as forms
 use Rattle.nr_reduce.specs.declared.call.Outcome.{Outcome}
 use Rattle.nr_reduce.specs.declared.call.Outcome.TheVariants as outcomes
-use Rattle.nr_requester.specs.declared.taking.Done.{Done}
+use Rattle.nr_requester.specs.AnsweredCalls.{Done}
 use Rattle.nr_turnstile.specs.declared.turnstile.Pass.{Pass}
 use Rattle.nr_record_loop.specs.Connections.{Exchange, IsServedBy, Loop, Unanswered}
 use Rattle.nr_record_loop.specs.declared.answering.NoReply.{NoReply}

@@ -126,14 +126,7 @@ fn reply_of(alloc: Global, done: Done, xid: u32) -> Result<Octets, Failure>
     ensures limit { IfOk result (λ reply. length reply < 2 ^ 31) }
     ensures err { IfErr result (HasNone done.outcome) }
 {
-    let Done {
-        call,
-        buffers,
-        outcome,
-    } = done;
-    drop(call);
-    drop(buffers);
-    match outcome {
+    match done.into_outcome() {
         Outcome::Reply(payload) => match with_own_xid(alloc, payload, xid) {
             Some(own) => Ok(own),
             None => Err(Failure::Memory),

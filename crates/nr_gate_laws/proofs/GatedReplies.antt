@@ -21,7 +21,7 @@ use Rattle.nr_reduce.specs.declared.mark.Entry.{Entry as JournalEntry}
 use Rattle.nr_reduce.specs.declared.mark.LinkParameters.{LinkParameters}
 use Rattle.nr_reduce.specs.declared.mark.Mark.{Mark}
 use Rattle.nr_reduce.specs.declared.mark.Mark.TheVariants as marks
-use Rattle.nr_requester.specs.declared.taking.Done.{Done}
+use Rattle.nr_requester.specs.AnsweredCalls.{Done}
 use Rattle.nr_laws.specs.MarkAt.{MarkAt}
 use Rattle.nr_laws.specs.Payloads.{HasPlan}
 use Rattle.nr_laws.proofs.Basics.{some_is_lem}

@@ -29,3 +29,4 @@ pub use laws::{allowed_accesses, contents_at_release, contents_while_open, held_
 pub use regions::Regions;
 pub use registration::Registration;
 pub use right::{Kind, Right};
+pub use window::Window;

@@ -222,8 +222,13 @@ impl Regions {
         }
     }
 
+    /// Registers a part of a buffer, as [`Regions::register_window`] does. It comes back with an error.
     #[tactic(auto, unfolding(crate::specs::RegisteredMemory::after_register))]
-    fn register_part(&mut self, window: Window, right: Right) -> Result<Registration, (Window, Why)>
+    pub fn register_part(
+        &mut self,
+        window: Window,
+        right: Right,
+    ) -> Result<Registration, (Window, Why)>
         ensures ok { IfOk result (λ claim. (claim ≡ claim_of self.old.memory window.bytes) × (self.new.memory ≡ after_register self.old.memory right window.bytes)) }
         ensures spent { IsErrAnd result (λ e. e.1 ≡ Why.Spent) ↔ (self.old.memory.next ≡ 2 ^ 32) }
         ensures succeeds { 0 < self.old.room → self.old.memory.next < 2 ^ 32 → IsOk result }

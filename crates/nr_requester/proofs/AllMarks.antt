@@ -22,7 +22,7 @@ use Rattle.nr_reduce.specs.Standing.{ClientRepresents, ClientRunsOut}
 use Rattle.nr_reduce.proofs.Steps.{client_one, end_state_after_append}
 use Rattle.nr_reduce.proofs.Standing.{itself, received_one, client_stays_out_lem}
 use Rattle.nr_reduce.proofs.Unresumed.{none_waits}
-use Rattle.nr_requester.specs.declared.answer.AnsweredCall.{AnsweredCall}
+use Rattle.nr_requester.specs.AnsweredCalls.{AnsweredCall}
 use Rattle.nr_requester.specs.RequesterState.{StoredCall, RequesterState, RequesterFeeding, RequesterSide, feeding_of, kept_call, kept_client, queue_of, input_kept}
 use Rattle.nr_requester.specs.KeptAnswers.{is_due, client_by, StillHolds, KeepsAnswers}
 use Rattle.nr_requester.specs.Standing.{KeepsClient, AnswersAfter, AnswersWith, RequesterRepresents, RequesterRunsOut}

@@ -22,7 +22,7 @@ use Rattle.nr_reduce.specs.Client.{client_rules, client_end, client_state_after,
 use Rattle.nr_reduce.specs.OutcomesDue.{is_completed}
 use Rattle.nr_reduce.proofs.Steps.{end_state_after_append, events_one}
 use Rattle.nr_reduce.proofs.Standing.{itself, one_more}
-use Rattle.nr_requester.specs.declared.answer.AnsweredCall.{AnsweredCall}
+use Rattle.nr_requester.specs.AnsweredCalls.{AnsweredCall}
 use Rattle.nr_requester.specs.RequesterState.{RequesterState, RequesterSide, StoredCall, awaited_call}
 use Rattle.nr_requester.specs.KeptAnswers.{is_due, client_by, completed_of, HandsBack, StillHolds, IsAsked, KeepsAnswers}
 use Rattle.nr_requester.specs.Standing.{AnswersWith}

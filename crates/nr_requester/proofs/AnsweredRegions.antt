@@ -25,7 +25,7 @@ use Rattle.nr_reduce.specs.Client.{client_rules, client_segment, client_end, cli
 use Rattle.nr_reduce.specs.StandingLaws.{StagsFrom}
 use Rattle.nr_reduce.proofs.OfferedMemory.{found, grants_from, none_found_lem, contents_same}
 use Rattle.nr_reduce.proofs.Placing.{segment_next}
-use Rattle.nr_requester.specs.declared.answer.AnsweredCall.{AnsweredCall}
+use Rattle.nr_requester.specs.AnsweredCalls.{AnsweredCall}
 use Rattle.nr_requester.specs.KeptAnswers.{buffers_in, regions_of, region_contents, closed_contents, StillHolds}
 use Rattle.nr_requester.proofs.CallRegions.{unwaiting}
 

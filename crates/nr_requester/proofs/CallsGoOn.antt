@@ -31,7 +31,7 @@ use Rattle.nr_reduce.proofs.OutcomesApart.{calls_uncompleted, calls_unanswered}
 use Rattle.nr_requester.specs.RequesterState.{StoredCall, RequesterState, RequesterSide, awaited_call, kept_call, kept_calls, kept_client}
 use Rattle.nr_requester.specs.AfterCalls.{stored_call}
 use Rattle.nr_requester.specs.KeptAnswers.{HandsBack, IsAsked, StillHolds, completed_of, is_due}
-use Rattle.nr_requester.specs.declared.answer.AnsweredCall.{AnsweredCall}
+use Rattle.nr_requester.specs.AnsweredCalls.{AnsweredCall}
 use Rattle.nr_requester.specs.OpenCalls.{found_answer}
 use Rattle.nr_requester.specs.ReopenedLinks.{KeepsEarlier, RequesterKeeps, earlier_own, own_answers}
 use Rattle.nr_requester.specs.Reopening.{CallsAgain, CallsGoOn, OpensNext, after_reopen, call_again, calls_again, calls_again_from, plan_again, stags_for_call, stags_for_calls, with_call_again}

@@ -6,7 +6,7 @@ use Rattle.std.proofs.lemmas.Bool.{eqb-true}
 use Rattle.nr_regions.specs.RegisteredMemory.{RegisteredMemory, Claim, AreHeldFrom}
 use Rattle.nr_reduce.specs.KeptClient.{released_all}
 use Rattle.nr_reduce.proofs.Standing.{itself}
-use Rattle.nr_requester.specs.declared.answer.AnsweredCall.{AnsweredCall}
+use Rattle.nr_requester.specs.AnsweredCalls.{AnsweredCall}
 use Rattle.nr_requester.specs.declared.outstanding.OutstandingCall.{OutstandingCall}
 use Rattle.nr_requester.specs.RequesterState.{stags_of}
 use Rattle.nr_requester.specs.HeldClaims.{call_claims, all_claims}

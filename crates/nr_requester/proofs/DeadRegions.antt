@@ -17,7 +17,7 @@ use Rattle.nr_endpoint.specs.Calls.Call.{Invalidate}
 use Rattle.nr_reduce.specs.declared.call.Call.{Call}
 use Rattle.nr_reduce.specs.declared.call.Outcome.{Outcome}
 use Rattle.nr_reduce.specs.KeptClient.{bytes_under, released_all}
-use Rattle.nr_requester.specs.declared.answer.AnsweredCall.{AnsweredCall}
+use Rattle.nr_requester.specs.AnsweredCalls.{AnsweredCall}
 use Rattle.nr_requester.specs.declared.answer.Buffers.{Buffers}
 use Rattle.nr_requester.specs.declared.outstanding.OutstandingCall.{OutstandingCall}
 use Rattle.nr_requester.specs.RequesterState.{StoredCall, awaited_call, stag_of, stags_of}

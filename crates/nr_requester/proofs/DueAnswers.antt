@@ -7,7 +7,7 @@ use Rattle.nr_reduce.specs.OutcomesDue.{outcomes_of_call, outcomes_due}
 use Rattle.nr_reduce.specs.Run.{client}
 use Rattle.nr_reduce.specs.declared.mark.LinkParameters.{LinkParameters}
 use Rattle.nr_reduce.specs.declared.mark.Mark.{Mark}
-use Rattle.nr_requester.specs.declared.answer.AnsweredCall.{AnsweredCall}
+use Rattle.nr_requester.specs.AnsweredCalls.{AnsweredCall}
 use Rattle.nr_requester.specs.RequesterState.{RequesterSide}
 use Rattle.nr_requester.specs.KeptAnswers.{is_due, completed_of, IsAsked}
 use Rattle.nr_requester.specs.Standing.{AnswersAfter}

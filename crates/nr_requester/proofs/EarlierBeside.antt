@@ -29,7 +29,7 @@ use Rattle.nr_reduce.specs.Events.{events}
 use Rattle.nr_reduce.specs.Matched.{IsPrefixOf}
 use Rattle.nr_reduce.specs.Run.{client}
 use Rattle.nr_reduce.proofs.Standing.{AtEachMark_more}
-use Rattle.nr_requester.specs.declared.answer.AnsweredCall.{AnsweredCall}
+use Rattle.nr_requester.specs.AnsweredCalls.{AnsweredCall}
 use Rattle.nr_requester.specs.RequesterState.{StoredCall, RequesterState, RequesterFeeding, RequesterSide, awaited_call, feeding_of, kept_calls}
 use Rattle.nr_requester.specs.AfterCalls.{after_drain, after_forget, after_revoke, after_submit, forgotten_if, revoked_if, stored_call}
 use Rattle.nr_requester.specs.AfterPiece.{after_fpdu, after_frame, after_fed, after_piece, answer_to, answered_as, call_of, judged, requester_ended, unless_ended, with_dead, with_deliveries}

@@ -18,7 +18,7 @@ use Rattle.nr_reduce.specs.ClientState.{ClientState}
 use Rattle.nr_reduce.specs.History.{AcceptedCall, CompletedCall, accepted_at, accepted_calls, bytes_received, fed_at}
 use Rattle.nr_reduce.specs.Run.{client}
 use Rattle.nr_reduce.proofs.Steps.{client_one, events_one}
-use Rattle.nr_requester.specs.declared.answer.AnsweredCall.{AnsweredCall}
+use Rattle.nr_requester.specs.AnsweredCalls.{AnsweredCall}
 use Rattle.nr_link.specs.Input.{InputState}
 use Rattle.nr_endpoint.specs.LinkState.{LinkState}
 use Rattle.nr_endpoint.specs.SendQueue.{writable}

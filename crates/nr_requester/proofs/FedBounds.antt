@@ -24,7 +24,7 @@ use Rattle.nr_endpoint.specs.Judging.{segment_end, next_frame, next_segment, wit
 use Rattle.nr_endpoint.specs.Calls.{after_call}
 use Rattle.nr_endpoint.specs.Calls.Call.{FeedOne, NextEvent, Post, Stop, OutOfMemory}
 use Rattle.nr_endpoint.proofs.AlongFrames.{feed_one_keeps}
-use Rattle.nr_requester.specs.declared.answer.AnsweredCall.{AnsweredCall}
+use Rattle.nr_requester.specs.AnsweredCalls.{AnsweredCall}
 use Rattle.nr_requester.specs.declared.outstanding.OutstandingCall.{OutstandingCall}
 use Rattle.nr_requester.specs.HeldBytes.{last_max, QueueFits, region_size, IsCount, AreRisingBy, send_of, in_bytes, claims_total, unsent, IsBounded}
 use Rattle.nr_requester.specs.AfterPiece.{dead_memory}

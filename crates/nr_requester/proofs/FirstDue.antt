@@ -6,7 +6,7 @@ use Rattle.nr_reduce.specs.declared.mark.Mark.{Mark}
 use Rattle.nr_reduce.specs.History.{AcceptedCall, CompletedCall, accepted_calls}
 use Rattle.nr_reduce.specs.OutcomesDue.{outcomes_of_call, outcomes_due}
 use Rattle.nr_reduce.specs.Run.{client}
-use Rattle.nr_requester.specs.declared.answer.AnsweredCall.{AnsweredCall}
+use Rattle.nr_requester.specs.AnsweredCalls.{AnsweredCall}
 use Rattle.nr_requester.specs.RequesterState.{RequesterSide}
 use Rattle.nr_requester.specs.KeptAnswers.{is_due, completed_of}
 use Rattle.nr_requester.specs.Standing.{AnswersWith}

@@ -27,7 +27,7 @@ use Rattle.nr_reduce.specs.OfferedMemory.{AreOffered}
 use Rattle.nr_reduce.proofs.Releasing.{kept_stays}
 use Rattle.nr_reduce.proofs.Steps.{end_state_after_append, ended_stays}
 use Rattle.nr_reduce.specs.KeptCalls.{numbered_calls}
-use Rattle.nr_requester.specs.declared.answer.AnsweredCall.{AnsweredCall}
+use Rattle.nr_requester.specs.AnsweredCalls.{AnsweredCall}
 use Rattle.nr_requester.specs.RequesterState.{RequesterState, StoredCall, awaited_call, stag_of, stags_of, kept_call, kept_calls, kept_client}
 use Rattle.nr_requester.specs.CallRegions.{OffersPlan}
 use Rattle.nr_requester.specs.KeptAnswers.{client_by, completed_of, one_buffer, buffers_in, region_contents, HandsBack, StillHolds, IsAsked, KeepsAnswers}

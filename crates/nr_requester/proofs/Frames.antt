@@ -47,7 +47,7 @@ use Rattle.nr_requester.specs.RequesterState.{RequesterState, kept_calls, queue_
 use Rattle.nr_requester.specs.Standing.{LinkKeeps}
 use Rattle.nr_requester.specs.AfterCalls.{stags_for}
 use Rattle.nr_requester.specs.AfterPiece.{dead_memory, with_dead, call_of, with_message, judged, with_deliveries, unless_ended, after_fpdu}
-use Rattle.nr_requester.specs.declared.answer.AnsweredCall.{AnsweredCall}
+use Rattle.nr_requester.specs.AnsweredCalls.{AnsweredCall}
 use Rattle.nr_requester.proofs.KeptCalls.{stags_alike}
 use Rattle.nr_requester.proofs.DeadRegions.{dead_bytes, dead_answer}
 use Rattle.nr_requester.proofs.NamedRegions.{named_released}

@@ -9,7 +9,7 @@ use Rattle.nr_endpoint.specs.LinkState.{LinkState, has_ended}
 use Rattle.nr_endpoint.specs.ReceiveQueue.{ReceiveQueue, receives_kept}
 use Rattle.nr_endpoint.specs.SendQueue.{held_len}
 use Rattle.nr_requester.specs.declared.outstanding.OutstandingCall.{OutstandingCall}
-use Rattle.nr_requester.specs.declared.answer.AnsweredCall.{AnsweredCall}
+use Rattle.nr_requester.specs.AnsweredCalls.{AnsweredCall}
 use Rattle.nr_requester.specs.RequesterState.{StoredCall, RequesterState, RequesterSide}
 use Rattle.nr_requester.specs.Views.{stored_view, requester_view}
 use Rattle.nr_requester.specs.HeldBytes.{NothingOutside, FitsSend, call_size, end_size, message_size, receive_max, offer_held, OffersFew, stored_bytes, calls_bytes, rooms_bytes, rooms_total, bytes_held_by, held_unit, last_max, LinkFits, RegionsHave, in_bytes, claims_total, CallFits, answer_bytes, answers_bytes, AnswerFits, RequesterBounds}

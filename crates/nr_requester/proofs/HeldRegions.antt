@@ -17,7 +17,7 @@ use Rattle.nr_endpoint.specs.Calls.Call.{Drain}
 use Rattle.nr_endpoint.specs.Offering.{with_buffer, with_read, with_write_buffer, with_offered, claim_if, claims_of}
 use Rattle.nr_requester.specs.declared.outstanding.OutstandingCall.{OutstandingCall}
 use Rattle.nr_requester.specs.HeldClaims.{claim_list, call_claims, all_claims, SentHeld, OffersOwn}
-use Rattle.nr_requester.specs.declared.answer.AnsweredCall.{AnsweredCall}
+use Rattle.nr_requester.specs.AnsweredCalls.{AnsweredCall}
 use Rattle.nr_requester.proofs.Releases.{from_lower}
 use Rattle.nr_requester.specs.HeldBytes.{xid_of, AreRisingBy}
 use Rattle.nr_requester.specs.Views.{claim_len, HasRoom, AreRising, IsAnswered, RequesterInvariant}

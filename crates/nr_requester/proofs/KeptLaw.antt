@@ -14,7 +14,7 @@ use Rattle.nr_reduce.specs.Standing.{ClientRepresents}
 use Rattle.nr_reduce.specs.Run.{client}
 use Rattle.nr_reduce.proofs.Standing.{AtEachMark_more, client_queue_lem}
 use Rattle.nr_reduce.proofs.Submitting.{accepted_keeps}
-use Rattle.nr_requester.specs.declared.answer.AnsweredCall.{AnsweredCall}
+use Rattle.nr_requester.specs.AnsweredCalls.{AnsweredCall}
 use Rattle.nr_requester.specs.RequesterState.{RequesterSide, queue_of, kept_client, input_kept}
 use Rattle.nr_requester.specs.Buffers.{bytes_of_buffers}
 use Rattle.nr_requester.specs.KeptAnswers.{completed_of, is_due}

@@ -11,7 +11,7 @@ use Rattle.nr_regions.specs.RegisteredMemory.{Claim, Region, RegisteredMemory}
 use Rattle.nr_reduce.specs.declared.call.Call.{Call}
 use Rattle.nr_endpoint.specs.EndpointState.{EndpointState}
 use Rattle.nr_endpoint.specs.declared.offering.Claims.{Claims}
-use Rattle.nr_requester.specs.declared.answer.AnsweredCall.{AnsweredCall}
+use Rattle.nr_requester.specs.AnsweredCalls.{AnsweredCall}
 use Rattle.nr_requester.specs.declared.outstanding.OutstandingCall.{OutstandingCall}
 use Rattle.nr_requester.specs.RequesterState.{StoredCall, RequesterState, stag_of, stags_of}
 use Rattle.nr_requester.specs.OpenCalls.{open_call}

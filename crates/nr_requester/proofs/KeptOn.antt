@@ -20,7 +20,7 @@ use Rattle.nr_reduce.specs.Run.{client}
 use Rattle.nr_reduce.proofs.Standing.{itself}
 use Rattle.nr_reduce.proofs.Steps.{client_one}
 use Rattle.nr_reduce.proofs.Unresumed.{none_after}
-use Rattle.nr_requester.specs.declared.answer.AnsweredCall.{AnsweredCall}
+use Rattle.nr_requester.specs.AnsweredCalls.{AnsweredCall}
 use Rattle.nr_requester.specs.RequesterState.{StoredCall, RequesterState, RequesterSide, queue_of}
 use Rattle.nr_requester.specs.AfterCalls.{stored_call, after_submit, after_drain, after_revoke, revoked_if, forgotten_if, after_forget}
 use Rattle.nr_requester.specs.CountedMarks.{has_bytes, is_counted, marks_max, marks_of, marks_if}

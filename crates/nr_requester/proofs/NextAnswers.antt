@@ -18,7 +18,7 @@ use Rattle.nr_reduce.specs.OfferedRegions.{Region}
 use Rattle.nr_reduce.specs.ClientState.{region_of, waiting_from, waiting_regions}
 use Rattle.nr_reduce.specs.KeptCalls.{KeptCall, numbered_from}
 use Rattle.nr_reduce.specs.KeptClient.{CanResume, resumed_kept}
-use Rattle.nr_requester.specs.declared.answer.AnsweredCall.{AnsweredCall}
+use Rattle.nr_requester.specs.AnsweredCalls.{AnsweredCall}
 use Rattle.nr_requester.specs.RequesterState.{StoredCall, RequesterSide, awaited_call, kept_call}
 use Rattle.nr_requester.specs.AfterCalls.{stored_call}
 use Rattle.nr_requester.specs.CallRegions.{OffersPlan}

@@ -21,7 +21,7 @@ use Rattle.nr_reduce.specs.Opening.{IsOpened}
 use Rattle.nr_reduce.specs.Reopening.{reopened}
 use Rattle.nr_reduce.specs.SubmitAnswer.{calls_to_resend}
 use Rattle.nr_reduce.specs.Run.{client}
-use Rattle.nr_requester.specs.declared.answer.AnsweredCall.{AnsweredCall}
+use Rattle.nr_requester.specs.AnsweredCalls.{AnsweredCall}
 use Rattle.nr_requester.specs.RequesterState.{StoredCall, RequesterState, RequesterSide}
 use Rattle.nr_requester.specs.CountedMarks.{marks_max, marks_of}
 use Rattle.nr_requester.specs.KeptAnswers.{KeepsAnswers, is_due}

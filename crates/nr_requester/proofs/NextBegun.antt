@@ -18,7 +18,7 @@ use Rattle.nr_endpoint.specs.SendQueue.{SendQueue, initial_queue}
 use Rattle.nr_reduce.specs.Limits.{numbers_end}
 use Rattle.nr_reduce.specs.declared.call.Call.{Call}
 use Rattle.nr_reduce.specs.declared.call.Refused.TheVariants as refusals
-use Rattle.nr_requester.specs.declared.answer.AnsweredCall.{AnsweredCall}
+use Rattle.nr_requester.specs.AnsweredCalls.{AnsweredCall}
 use Rattle.nr_requester.specs.declared.outstanding.OutstandingCall.{OutstandingCall}
 use Rattle.nr_requester.specs.RequesterState.{RequesterState, RequesterSide, awaited_call}
 use Rattle.nr_requester.specs.Reopening.{CallsAgain, calls_again, calls_again_from, stags_for_calls, after_reopen, reopen_refusal, reopen_refusal_by, unless_stags_spent}

@@ -18,7 +18,7 @@ use Rattle.nr_requester.specs.AfterCalls.{stags_for}
 use Rattle.nr_requester.specs.AfterPiece.{dead_memory}
 use Rattle.nr_requester.specs.Buffers.{with_memory}
 use Rattle.nr_requester.specs.Views.{stored_view}
-use Rattle.nr_requester.specs.declared.answer.AnsweredCall.{AnsweredCall}
+use Rattle.nr_requester.specs.AnsweredCalls.{AnsweredCall}
 use Rattle.nr_requester.specs.declared.outstanding.OutstandingCall.{OutstandingCall}
 use Rattle.nr_requester.specs.Judged.{SameCalls}
 use Rattle.nr_requester.specs.Fed.{OneWaits, CallsSound, StopsDead, JudgesTo}

@@ -14,7 +14,7 @@ use Rattle.nr_reduce.specs.Matched.{IsPrefixOf}
 use Rattle.nr_reduce.specs.Asked.{AskedMark, AskedSoFar, IsAwaited, IsAwaitedOf, IsAwaitedOrWaits, IsCompleted, IsLost}
 use Rattle.nr_reduce.specs.Credits.{WithinGrant, KeepsGrant}
 use Rattle.nr_reduce.proofs.Standing.{AtEachMark_more}
-use Rattle.nr_requester.specs.declared.answer.AnsweredCall.{AnsweredCall}
+use Rattle.nr_requester.specs.AnsweredCalls.{AnsweredCall}
 use Rattle.nr_requester.specs.RequesterState.{StoredCall, RequesterSide, awaited_call}
 use Rattle.nr_requester.specs.KeptAnswers.{is_due, completed_of, IsAsked}
 use Rattle.nr_requester.specs.Standing.{AnswersAfter, AnswersWith}

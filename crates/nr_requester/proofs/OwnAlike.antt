@@ -7,7 +7,7 @@ use Rattle.nr_reduce.specs.declared.mark.Mark.{Mark}
 use Rattle.nr_reduce.specs.Asked.{as_accepted, client_calls}
 use Rattle.nr_reduce.specs.Events.{events}
 use Rattle.nr_reduce.specs.Run.{client}
-use Rattle.nr_requester.specs.declared.answer.AnsweredCall.{AnsweredCall}
+use Rattle.nr_requester.specs.AnsweredCalls.{AnsweredCall}
 use Rattle.nr_requester.specs.RequesterState.{StoredCall, RequesterState, RequesterSide}
 use Rattle.nr_requester.specs.KeptAnswers.{HandsBack, IsAsked, KeepsAnswers, StillHolds, completed_of, is_due}
 use Rattle.nr_requester.specs.ReopenedLinks.{AlikeAreKept, AreAlike, HasOwnCalls, KeepsEarlier, RequesterKeeps, RequesterStops, own_answers}

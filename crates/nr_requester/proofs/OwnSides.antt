@@ -22,7 +22,7 @@ use Rattle.nr_reduce.specs.ClientMessages.{ReplyVerdict}
 use Rattle.nr_reduce.specs.ClientMessages.ReplyVerdict.{EndsLink, GivesOutcome}
 use Rattle.nr_reduce.specs.KeptCalls.{kept_named, kept_message_verdict}
 use Rattle.nr_reduce.specs.KeptClient.{bytes_under}
-use Rattle.nr_requester.specs.declared.answer.AnsweredCall.{AnsweredCall}
+use Rattle.nr_requester.specs.AnsweredCalls.{AnsweredCall}
 use Rattle.nr_requester.specs.RequesterState.{StoredCall, RequesterState, RequesterFeeding, RequesterSide, awaited_call, kept_calls}
 use Rattle.nr_requester.specs.AfterCalls.{without_answer}
 use Rattle.nr_requester.specs.AfterPiece.{answered_as, answer_to, call_of, without_call, judged, with_dead, with_message, with_deliveries, unless_ended, after_fpdu, requester_ended, after_frame, after_piece}

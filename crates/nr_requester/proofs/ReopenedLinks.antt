@@ -13,7 +13,7 @@ use Rattle.nr_reduce.specs.declared.mark.Mark.TheVariants as marks
 use Rattle.nr_reduce.specs.ClientState.{WaitingCall}
 use Rattle.nr_reduce.specs.Run.{client}
 use Rattle.nr_reduce.proofs.Unresumed.{none_waits}
-use Rattle.nr_requester.specs.declared.answer.AnsweredCall.{AnsweredCall}
+use Rattle.nr_requester.specs.AnsweredCalls.{AnsweredCall}
 use Rattle.nr_requester.specs.RequesterState.{StoredCall, RequesterSide}
 use Rattle.nr_requester.specs.AfterPiece.{after_fed}
 use Rattle.nr_requester.specs.CountedMarks.{counted_marks, marks_max, marks_of}

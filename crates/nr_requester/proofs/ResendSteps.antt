@@ -9,7 +9,7 @@ use Rattle.nr_endpoint.specs.LinkState.{LinkState, LinkSide, has_ended}
 use Rattle.nr_endpoint.specs.SendQueue.{SendQueue, with_send, with_held_sent}
 use Rattle.nr_endpoint.specs.Calls.{with_state, after_call}
 use Rattle.nr_endpoint.specs.Calls.Call.{SendHeld}
-use Rattle.nr_requester.specs.declared.answer.AnsweredCall.{AnsweredCall}
+use Rattle.nr_requester.specs.AnsweredCalls.{AnsweredCall}
 use Rattle.nr_requester.specs.declared.outstanding.OutstandingCall.{OutstandingCall}
 use Rattle.nr_requester.specs.RequesterState.{RequesterSide, KeepsStaging}
 use Rattle.nr_requester.specs.AfterPiece.{after_fed}

@@ -23,7 +23,7 @@ use Rattle.nr_reduce.specs.Run.{client}
 use Rattle.nr_reduce.proofs.GoingOn.{no_element, one_element}
 use Rattle.nr_reduce.proofs.OwnStags.{kept_after}
 use Rattle.nr_reduce.proofs.Submits.{after_resent, resent_calls}
-use Rattle.nr_requester.specs.declared.answer.AnsweredCall.{AnsweredCall}
+use Rattle.nr_requester.specs.AnsweredCalls.{AnsweredCall}
 use Rattle.nr_requester.specs.RequesterState.{StoredCall, RequesterState}
 use Rattle.nr_requester.specs.CallRegions.{CallsOffer, OffersPlan}
 use Rattle.nr_requester.specs.KeptAnswers.{KeepsAnswers, StillHolds, client_by}

@@ -24,7 +24,7 @@ use Rattle.nr_reduce.specs.KeptClient.{bytes_under, IsWaiting, HasRegionsOf}
 use Rattle.nr_reduce.proofs.Standing.{AtEachMark_more}
 use Rattle.nr_requester.specs.RequesterState.{StoredCall, RequesterSide, kept_client, queue_of, stags_of, kept_call}
 use Rattle.nr_requester.specs.Laws.{HoldsPlaced, BuffersArePlaced, RevokeKeepsLaw, RevokedOut}
-use Rattle.nr_requester.specs.declared.answer.AnsweredCall.{AnsweredCall}
+use Rattle.nr_requester.specs.AnsweredCalls.{AnsweredCall}
 use Rattle.nr_requester.specs.declared.answer.Buffers.{Buffers}
 use Rattle.nr_requester.specs.Buffers.{buffer_bytes, bytes_of_buffers}
 use Rattle.nr_requester.specs.KeptAnswers.{StillHolds, one_buffer, buffers_in, regions_of}

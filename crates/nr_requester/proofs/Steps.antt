@@ -24,7 +24,7 @@ use Rattle.nr_reduce.specs.ClientMessages.ReplyVerdict.{EndsLink, GivesOutcome}
 use Rattle.nr_reduce.specs.KeptCalls.{kept_named, kept_message_verdict}
 use Rattle.nr_reduce.specs.KeptClient.{bytes_under, released_all}
 use Rattle.nr_xdr.specs.Fields.{word_at}
-use Rattle.nr_requester.specs.declared.answer.AnsweredCall.{AnsweredCall}
+use Rattle.nr_requester.specs.AnsweredCalls.{AnsweredCall}
 use Rattle.nr_requester.specs.declared.outstanding.OutstandingCall.{OutstandingCall}
 use Rattle.nr_requester.specs.RequesterState.{RequesterState, RequesterFeeding, kept_calls}
 use Rattle.nr_requester.specs.AfterCalls.{stags_for, live_count}

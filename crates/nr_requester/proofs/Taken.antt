@@ -16,7 +16,7 @@ use Rattle.nr_reduce.specs.ClientMessages.ReplyVerdict.{GivesOutcome}
 use Rattle.nr_reduce.specs.Client.{credits_of_word}
 use Rattle.nr_reduce.specs.KeptCalls.{kept_message_verdict}
 use Rattle.nr_reduce.specs.KeptClient.{released_all}
-use Rattle.nr_requester.specs.declared.answer.AnsweredCall.{AnsweredCall}
+use Rattle.nr_requester.specs.AnsweredCalls.{AnsweredCall}
 use Rattle.nr_requester.specs.declared.outstanding.OutstandingCall.{OutstandingCall}
 use Rattle.nr_requester.specs.RequesterState.{StoredCall, stags_of, awaited_call}
 use Rattle.nr_requester.specs.HeldClaims.{all_claims, OffersOwn}

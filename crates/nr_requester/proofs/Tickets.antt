@@ -30,7 +30,7 @@ use Rattle.nr_reduce.specs.ClientMessages.{ReplyVerdict, reply_xid, reply_by_hea
 use Rattle.nr_reduce.specs.ClientMessages.ReplyVerdict.{EndsLink, GivesOutcome}
 use Rattle.nr_reduce.specs.KeptCalls.{KeptCall, kept_payload, kept_lists, kept_body, kept_call as by_kept_call, kept_by, kept_header, kept_verdict, kept_named, kept_message_verdict}
 use Rattle.nr_reduce.specs.KeptClient.{bytes_under}
-use Rattle.nr_requester.specs.declared.answer.AnsweredCall.{AnsweredCall}
+use Rattle.nr_requester.specs.AnsweredCalls.{AnsweredCall}
 use Rattle.nr_requester.specs.declared.outstanding.OutstandingCall.{OutstandingCall}
 use Rattle.nr_requester.specs.RequesterState.{RequesterState, RequesterFeeding, RequesterSide, StoredCall, awaited_call, kept_call, kept_calls}
 use Rattle.nr_requester.specs.AfterCalls.{revoked_if, revoked_call, forgotten_if, forgotten_call, stored_call, after_submit, after_drain, after_revoke, after_forget}

@@ -23,7 +23,7 @@ use Rattle.nr_requester.specs.Views.{stored_view, requester_view, side_view}
 use Rattle.nr_requester.specs.CountedMarks.{has_bytes, one_mark_more, marks_if}
 use Rattle.nr_requester.proofs.CountedMarks.{moved_bytes}
 use Rattle.nr_requester.proofs.AllMarks.{begins, drain_is_a_mark}
-use Rattle.nr_requester.specs.declared.answer.AnsweredCall.{AnsweredCall}
+use Rattle.nr_requester.specs.AnsweredCalls.{AnsweredCall}
 
 pub if_ok : {T E : Type 0} {P Q : T → Type 0} (r : Result T E) → ((t : T) → P t → Q t) → IfOk r P → IfOk r Q
 if_ok (Ok t) f h = f t h

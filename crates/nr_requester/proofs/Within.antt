@@ -37,7 +37,7 @@ use Rattle.nr_reduce.specs.Plans.{total, plan_of, buffers, call_message, lists_o
 use Rattle.nr_reduce.specs.KeptClient.{registered_all}
 use Rattle.nr_reduce.proofs.PrivateData.{initiator_short}
 use Rattle.nr_reduce.proofs.Sizes.{message_size}
-use Rattle.nr_requester.specs.declared.answer.AnsweredCall.{AnsweredCall}
+use Rattle.nr_requester.specs.AnsweredCalls.{AnsweredCall}
 use Rattle.nr_requester.specs.declared.outstanding.OutstandingCall.{OutstandingCall}
 use Rattle.nr_requester.specs.AfterCalls.{submitted, sent_unless}
 use Rattle.nr_requester.specs.Sending.{IsPlan, offered_of}

@@ -14,7 +14,7 @@ use Rattle.nr_reduce.specs.declared.call.Call.{Call}
 use Rattle.nr_reduce.specs.declared.outline.Plan.{Plan}
 use Rattle.nr_reduce.specs.Plans.{Buffer, buffers, call_message, lists_of}
 use Rattle.nr_reduce.specs.KeptClient.{registered_all, released_all}
-use Rattle.nr_requester.specs.declared.answer.AnsweredCall.{AnsweredCall}
+use Rattle.nr_requester.specs.AnsweredCalls.{AnsweredCall}
 use Rattle.nr_requester.specs.RequesterState.{stags_of, StoredCall, RequesterSide, queue_of}
 use Rattle.nr_requester.specs.CountedMarks.{has_bytes, one_mark_more, marks_if, with_releases}
 use Rattle.nr_requester.specs.Sending.{offered_of}

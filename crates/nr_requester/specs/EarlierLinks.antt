@@ -7,7 +7,7 @@ use Rattle.nr_reduce.specs.declared.mark.LinkParameters.{LinkParameters}
 use Rattle.nr_reduce.specs.declared.mark.Mark.{Mark}
 use Rattle.nr_reduce.specs.declared.mark.Mark.TheVariants as marks
 use Rattle.nr_reduce.specs.declared.outline.Plan.{Plan}
-use Rattle.nr_requester.specs.declared.answer.AnsweredCall.{AnsweredCall}
+use Rattle.nr_requester.specs.AnsweredCalls.{AnsweredCall}
 use Rattle.nr_requester.specs.RequesterState.{RequesterSide, feeding_of}
 use Rattle.nr_requester.specs.AfterCalls.{after_drain, after_forget, after_revoke, after_submit}
 use Rattle.nr_requester.specs.AfterPiece.{RanOut, after_piece}

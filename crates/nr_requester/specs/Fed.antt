@@ -21,7 +21,7 @@ use Rattle.nr_endpoint.specs.SendQueue.{output_len}
 use Rattle.nr_endpoint.specs.Calls.Call.{Post, Stop, OutOfMemory}
 use Rattle.nr_requester.specs.AfterCalls.{stags_for, live_count}
 use Rattle.nr_requester.specs.Buffers.{with_memory}
-use Rattle.nr_requester.specs.declared.answer.AnsweredCall.{AnsweredCall}
+use Rattle.nr_requester.specs.AnsweredCalls.{AnsweredCall}
 use Rattle.nr_requester.specs.declared.answer.Buffers.{Buffers}
 use Rattle.nr_requester.specs.declared.outstanding.OutstandingCall.{OutstandingCall}
 use Rattle.nr_requester.specs.RequesterState.{RequesterFeeding, RequesterSide, feeding_of, kept_calls}

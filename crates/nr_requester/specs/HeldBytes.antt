@@ -23,7 +23,7 @@ use Rattle.nr_reduce.specs.Limits.{given_max}
 use Rattle.nr_reduce.specs.Plans.{total}
 use Rattle.nr_reduce.specs.Chunks.{chunk_total}
 use Rattle.nr_requester.specs.declared.outstanding.OutstandingCall.{OutstandingCall}
-use Rattle.nr_requester.specs.declared.answer.AnsweredCall.{AnsweredCall}
+use Rattle.nr_requester.specs.AnsweredCalls.{AnsweredCall}
 use Rattle.nr_requester.specs.declared.answer.Buffers.{Buffers}
 use Rattle.nr_requester.specs.RequesterState.{StoredCall, RequesterState}
 

@@ -1,16 +1,19 @@
 -- What a message makes of its call, for the code: what came in its chunks, and what it brings.
-use Rattle.std.specs.Prelude.{◌≡◌, ℕ, ◌<◌, ◌≤◌, true, List, [], ◌∷◌, length, take, map, get_or, sum, Option, None, Some}
+use Rattle.std.specs.Prelude.{◌≡◌, ℕ, ◌<◌, ◌≤◌, ◌-◌, true, List, [], ◌∷◌, length, take, drop, map, get_or, sum, Option, None, Some, IfSome}
 use Rattle.nr_header.specs.declared.fault.HeaderFault.{HeaderFault}
 use Rattle.nr_header.specs.declared.fault.HeaderFault.TheVariants as faults
 use Rattle.nr_header.specs.declared.header.RdmaSegment.{RdmaSegment}
-use Rattle.nr_regions.specs.RegisteredMemory.{RegisteredMemory, Claim, IsHeld}
+use Rattle.nr_regions.specs.RegisteredMemory.{RegisteredMemory, Claim, IsHeld, bytes_in, held_region}
+use Rattle.nr_endpoint.specs.declared.offering.Claims.{Claims}
 use Rattle.nr_link.specs.Reasons.{REASON_SHORT, REASON_KIND, REASON_VERSION}
 use Rattle.nr_endpoint.specs.Calls.{IsStopReason}
 use Rattle.nr_reduce.specs.declared.call.Call.{Call}
 use Rattle.nr_reduce.specs.declared.call.Outcome.{Outcome}
 use Rattle.nr_reduce.specs.declared.call.Outcome.TheVariants as outcomes
 use Rattle.nr_reduce.specs.declared.item.Of.TheVariants.{Reply as OfReply}
-use Rattle.nr_reduce.specs.PayloadRoom.{PayloadRoom}
+use Rattle.nr_reduce.specs.Items.{restored_payload}
+use Rattle.nr_reduce.specs.KeptClient.{bytes_under}
+use Rattle.nr_reduce.specs.declared.item.Item.{Item}
 use Rattle.nr_reduce.specs.Plans.{segments_from}
 use Rattle.nr_reduce.specs.Chunks.{returns, whole}
 use Rattle.nr_reduce.specs.ClientMessages.{ReplyVerdict, reply_by_payload}
@@ -19,8 +22,10 @@ use Rattle.nr_reduce.specs.KeptCalls.{KeptCall, kept_message_verdict}
 use Rattle.nr_requester.specs.declared.outstanding.OutstandingCall.{OutstandingCall}
 use Rattle.nr_requester.specs.declared.replies.Found.{Found}
 use Rattle.nr_requester.specs.declared.replies.Found.TheVariants as founds
+use Rattle.nr_requester.specs.declared.replies.StreamPlace.{StreamPlace}
+use Rattle.nr_requester.specs.declared.replies.StreamPlace.TheVariants as places
 use Rattle.nr_requester.specs.RequesterState.{kept_call}
-use Rattle.nr_requester.specs.Views.{stored_view}
+use Rattle.nr_requester.specs.Views.{claim_len, stored_view}
 
 abbrev pub header_reason : HeaderFault → ℕ
 header_reason faults.Short = REASON_SHORT
@@ -45,29 +50,49 @@ ReplyComesBack m claim (Some chunk) = ComesBack m claim chunk
 
 -- ---- What a message brings
 
-abbrev pub outcome_by : Found → List ℕ → Option Outcome
-outcome_by founds.Nothing room = None
-outcome_by (founds.Reply len) room = Some (outcomes.Reply (take len room))
-outcome_by founds.Chunk room = Some outcomes.Chunk
-outcome_by (founds.Version low high) room = Some (outcomes.Version low high)
+-- the payload of a stream, with an item whose bytes are the first that were placed, if there is one
+abbrev pub payload_by : Option Item → (stream placed : List ℕ) → List ℕ
+payload_by None stream placed = stream
+payload_by (Some i) stream placed = restored_payload i stream placed
 
--- the payload lies within what was written into the room
-abbrev pub LiesWithin : Found → List ℕ → Type 0
-LiesWithin founds.Nothing room = Unit {0}
-LiesWithin (founds.Reply len) room = len ≤ length room
-LiesWithin founds.Chunk room = Unit {0}
-LiesWithin (founds.Version low high) room = Unit {0}
+-- the bytes of a region of a call, if there is one
+abbrev pub region_bytes : RegisteredMemory → Option Claim → List ℕ
+region_bytes m None = []
+region_bytes m (Some claim) = bytes_in (held_region m claim.stag)
+
+abbrev pub write_bytes : RegisteredMemory → Claims → List ℕ
+write_bytes m claims = region_bytes m claims.write
+
+-- the stream of a reply: in its message, or in the region of the reply chunk
+abbrev pub stream_by : StreamPlace → (message : List ℕ) → RegisteredMemory → Claims → List ℕ
+stream_by (places.Message at) message m claims = drop at message
+stream_by (places.Region len) message m claims = take len (region_bytes m claims.reply)
+
+abbrev pub outcome_by : Found → (message : List ℕ) → RegisteredMemory → Claims → Option Outcome
+outcome_by founds.Nothing message m claims = None
+outcome_by (founds.Reply stream item) message m claims = Some (outcomes.Reply (payload_by item (stream_by stream message m claims) (write_bytes m claims)))
+outcome_by founds.Chunk message m claims = Some outcomes.Chunk
+outcome_by (founds.Version low high) message m claims = Some (outcomes.Version low high)
+
+-- the stream lies within the message of this length, or within the region of the reply chunk
+abbrev pub StreamLies : StreamPlace → (len : ℕ) → Claims → Type 0
+StreamLies (places.Message at) len claims = at ≤ len
+StreamLies (places.Region n) len claims = n ≤ claim_len claims.reply
+
+abbrev pub stream_len : StreamPlace → (len : ℕ) → ℕ
+stream_len (places.Message at) len = len - at
+stream_len (places.Region n) len = n
+
+-- and so does the item's position, and its bytes within the region of the write chunk
+abbrev pub LiesWithin : Found → (len : ℕ) → Claims → Type 0
+LiesWithin founds.Nothing len claims = Unit {0}
+LiesWithin (founds.Reply stream item) len claims = StreamLies stream len claims × IfSome item (λ i. (i.pos ≤ stream_len stream len) × (i.len ≤ claim_len claims.write))
+LiesWithin founds.Chunk len claims = Unit {0}
+LiesWithin (founds.Version low high) len claims = Unit {0}
 
 -- what a reply with this stream, and what moved beside it, makes of its call
 abbrev pub by_stream : ℕ → Call → List ℕ → Option (List ℕ) → ReplyVerdict
 by_stream xid call stream moved = reply_by_payload xid (whole (OfReply call.prog call.vers call.proc) stream moved)
-
-abbrev pub with_room : OutstandingCall → PayloadRoom → OutstandingCall
-with_room c room = record { xid = c.xid; send = c.send; call = c.call; is_forgotten = c.is_forgotten; read_at = c.read_at; offered = c.offered; given = c.given; claims = c.claims; room = room }
-
--- only the bytes in its room change
-abbrev pub SameCall : (before after : OutstandingCall) → Type 0
-SameCall before after = (after ≡ with_room before after.room) × ((after.room.len ≡ before.room.len) × (length before.room.bytes ≤ before.room.len → length after.room.bytes ≤ after.room.len))
 
 -- a call as a client keeps it
 abbrev pub kept_view : (sent : ℕ) → OutstandingCall → KeptCall
@@ -79,16 +104,9 @@ kept_views sent calls = map (kept_call sent) (map stored_view calls)
 abbrev pub Ends : ReplyVerdict → ℕ → Type 0
 Ends verdict reason = (verdict ≡ EndsLink reason) × IsStopReason reason
 
--- the same of all calls
-abbrev pub SameCalls : (before after : List OutstandingCall) → Type 0
-SameCalls [] [] = Unit {0}
-SameCalls [] (a ∷ after) = ⊥
-SameCalls (b ∷ before) [] = ⊥
-SameCalls (b ∷ before) (a ∷ after) = SameCall b a × SameCalls before after
-
 -- A message that names an STag, or none, answers the call at this place, and brings this for it.
-pub record Brings (many : ℕ) (before after : List OutstandingCall) (memory : ℕ → List ℕ) (named : Option ℕ) (message : List ℕ) (at : ℕ) (f : Found) : Type 0 where
-  pub within : at < length after
-  pub verdict : (d : OutstandingCall) → kept_message_verdict (kept_views many before) memory named message ≡ GivesOutcome (get_or before at d).xid (outcome_by f (get_or after at d).room.bytes)
-  pub fits : (d : OutstandingCall) → LiesWithin f (get_or after at d).room.bytes
-  pub sent : (d : OutstandingCall) → (get_or before at d).send < many
+pub record Brings (many : ℕ) (calls : List OutstandingCall) (m : RegisteredMemory) (named : Option ℕ) (message : List ℕ) (at : ℕ) (f : Found) : Type 0 where
+  pub within : at < length calls
+  pub verdict : (d : OutstandingCall) → kept_message_verdict (kept_views many calls) (bytes_under m) named message ≡ GivesOutcome (get_or calls at d).xid (outcome_by f message m (get_or calls at d).claims)
+  pub fits : (d : OutstandingCall) → LiesWithin f (length message) (get_or calls at d).claims
+  pub sent : (d : OutstandingCall) → (get_or calls at d).send < many

@@ -19,7 +19,7 @@ use Rattle.nr_reduce.specs.ClientMessages.{message_verdict}
 use Rattle.nr_reduce.specs.ClientMessages.ReplyVerdict.{GivesOutcome}
 use Rattle.nr_reduce.specs.Client.{client_rules, initial_client, client_segment}
 use Rattle.nr_reduce.specs.OutcomesDue.{is_completed}
-use Rattle.nr_requester.specs.declared.answer.AnsweredCall.{AnsweredCall}
+use Rattle.nr_requester.specs.AnsweredCalls.{AnsweredCall}
 use Rattle.nr_requester.specs.declared.answer.Buffers.{Buffers}
 use Rattle.nr_requester.specs.RequesterState.{RequesterState, awaited_call}
 use Rattle.nr_requester.specs.CallRegions.{CallsOffer}

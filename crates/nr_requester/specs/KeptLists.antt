@@ -5,7 +5,7 @@ use Rattle.std.specs.FinMap.{values}
 use Rattle.nr_regions.specs.RegisteredMemory.{RegisteredMemory}
 use Rattle.nr_link.specs.Limits.{open_reads_max}
 use Rattle.nr_reduce.specs.Limits.{credits_max}
-use Rattle.nr_requester.specs.declared.answer.AnsweredCall.{AnsweredCall}
+use Rattle.nr_requester.specs.AnsweredCalls.{AnsweredCall}
 use Rattle.nr_requester.specs.HeldBytes.{AreDistinct, segments_offered, offered_segments_max}
 use Rattle.nr_requester.specs.RequesterState.{StoredCall, RequesterState, stags_of}
 use Rattle.nr_requester.specs.OpenCalls.{open_call}

@@ -9,6 +9,8 @@ pub mod Answers
 pub mod Sending
 pub mod MaySubmit
 pub mod HeldClaims
+pub mod AnsweredCalls
+pub mod Parts
 pub mod Buffers
 pub mod OpenCalls
 pub mod Remaining

@@ -14,7 +14,7 @@ use Rattle.nr_reduce.specs.Opening.{IsFirstLink}
 use Rattle.nr_reduce.specs.SubmitAnswer.{calls_to_resend}
 use Rattle.nr_reduce.specs.Run.{client}
 use Rattle.nr_reduce.specs.Standing.{ClientRunsOut}
-use Rattle.nr_requester.specs.declared.answer.AnsweredCall.{AnsweredCall}
+use Rattle.nr_requester.specs.AnsweredCalls.{AnsweredCall}
 use Rattle.nr_requester.specs.RequesterState.{RequesterState, RequesterSide, kept_client, queue_of}
 use Rattle.nr_requester.specs.CountedMarks.{marks_max, marks_of}
 use Rattle.nr_requester.specs.KeptAnswers.{HandsBack, IsAsked, StillHolds, completed_of, is_due}

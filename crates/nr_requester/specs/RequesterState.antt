@@ -12,7 +12,7 @@ use Rattle.nr_endpoint.specs.SendQueue.{writable}
 use Rattle.nr_reduce.specs.declared.call.Call.{Call}
 use Rattle.nr_reduce.specs.KeptCalls.{KeptCall}
 use Rattle.nr_reduce.specs.KeptClient.{KeptClient}
-use Rattle.nr_requester.specs.declared.answer.AnsweredCall.{AnsweredCall}
+use Rattle.nr_requester.specs.AnsweredCalls.{AnsweredCall}
 
 -- the STags of some registrations, in the order in which they were made
 abbrev pub stag_of : Option Claim → List ℕ

@@ -32,9 +32,21 @@ some_if false bytes = None
 abbrev pub offered_of : Plan → Offered
 offered_of p = record {
   read = some_if (has_segment (Some p.read)) p.region;
-  write = some_if (has_segment p.write) (replicate (total p.write) 0);
+  write = option_map (λ (bytes : List ℕ). record { bytes = bytes; outside = nothing_outside }) (some_if (has_segment p.write) (replicate (total p.write) 0));
   reply = some_if (has_segment p.reply) (replicate (total p.reply) 0);
 }
+
+-- the same bytes are offered, whatever is outside the part that a write chunk fills
+abbrev pub Offers : Offered → Plan → Type 0
+Offers o p = (o.read ≡ (offered_of p).read) × (part_bytes o.write ≡ part_bytes (offered_of p).write) × (o.reply ≡ (offered_of p).reply)
+
+-- how many bytes the stream of a reply can have, and a pad
+abbrev pub stream_room : (receive_length : ℕ) → Plan → ℕ
+stream_room receive_length p = max receive_length (total p.reply) + 3
+
+-- the room that is taken for a call
+abbrev pub room_for : (receive_length : ℕ) → Plan → ℕ
+room_for receive_length p = if has_segment p.write then stream_room receive_length p else receive_length + 3
 
 -- a plan of a payload in a form, whose Send fits what is agreed
 pub record IsPlan (p : Plan) : Type 0 where

@@ -18,7 +18,7 @@ use Rattle.nr_reduce.specs.History.{CompletedCall, written_at, fed_at}
 use Rattle.nr_reduce.specs.OutcomesDue.{outcomes_due}
 use Rattle.nr_reduce.specs.Run.{client}
 use Rattle.nr_reduce.specs.SubmitAnswer.{calls_counted}
-use Rattle.nr_requester.specs.declared.answer.AnsweredCall.{AnsweredCall}
+use Rattle.nr_requester.specs.AnsweredCalls.{AnsweredCall}
 use Rattle.nr_requester.specs.RequesterState.{RequesterSide, feeding_of, queue_of}
 use Rattle.nr_requester.specs.AfterCalls.{after_drain, after_forget, after_revoke}
 use Rattle.nr_requester.specs.AfterPiece.{RanOut, after_piece}

@@ -7,7 +7,7 @@ use Rattle.nr_reduce.specs.Limits.{credits_max}
 use Rattle.nr_reduce.specs.KeptCalls.{own_of}
 use Rattle.nr_requester.specs.declared.outstanding.OutstandingCall.{OutstandingCall}
 use Rattle.nr_requester.specs.declared.outstanding.GivenStags.{GivenStags}
-use Rattle.nr_requester.specs.declared.answer.AnsweredCall.{AnsweredCall}
+use Rattle.nr_requester.specs.AnsweredCalls.{AnsweredCall}
 use Rattle.nr_requester.specs.RequesterState.{StoredCall, RequesterFeeding, RequesterSide}
 use Rattle.nr_requester.specs.AfterCalls.{no_claims}
 use Rattle.nr_requester.specs.HeldBytes.{xid_of, AreRisingBy}

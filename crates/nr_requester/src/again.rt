@@ -20,7 +20,7 @@ use crate::outstanding::OutstandingCall;
 use crate::submitting::{NUMBERS_END, Sent, SentCall, target_under};
 use nr_endpoint::{Claims, Endpoint};
 use nr_header::{Chunk, ListSlices, RdmaSegment, ReadSegment};
-use nr_reduce::{Call, ChunkLengths, Outline, ReadOutline};
+use nr_reduce::{Call, ChunkLengths, Outline, ReadOutline, expected_item_at};
 use nr_rpc::write_call_head;
 use nr_xdr::Memory;
 use std::alloc::Global;
@@ -157,8 +157,10 @@ fn hold_message(
     xid: u32,
     credit: u32,
     plan: PlannedCall<'_>,
+    receive_length: u32,
     lists: &OfferedLists,
 ) -> Result<Claims, Memory>
+    requires receive { receive_length ≤ receive_max }
     requires live { endpoint.old.link.state.ended ≡ None }
     requires planned { IsPlan (call_plan plan) }
     requires stags { endpoint.old.link.state.memory.next + regions_needed (call_plan plan) ≤ 2 ^ 32 }
@@ -167,11 +169,11 @@ fn hold_message(
     ensures claims { IfOk result (λ claims. claims ≡ claims_of endpoint.old.link.state.memory (offered_of (call_plan plan.entry))) }
     ensures held { IfOk result (λ claims. SentHeld endpoint.old.link.state.memory endpoint.new.link.state.memory claims) }
     ensures staging { endpoint.new.staging ≡ endpoint.old.staging }
-    ensures outside { OnOk result (NothingOutside endpoint.old → NothingOutside endpoint.new) }
+    ensures outside { OnOk result (PartAdded receive_length (call_plan plan.entry) plan.entry.item_at endpoint.old endpoint.new) }
 {
     let (mut message, stream) = message_of(alloc, xid, credit, plan, lists.as_slices())?;
     message.extend_from_slice(stream)?;
-    let offered = offered_of(alloc, plan)?;
+    let offered = offered_of(alloc, plan, receive_length)?;
     match endpoint.offer_held(message, offered) {
         Ok(claims) => Ok(claims),
         Err(offered) => {
@@ -188,7 +190,9 @@ fn hold_plan(
     xid: u32,
     credit: u32,
     plan: PlannedCall<'_>,
+    receive_length: u32,
 ) -> Result<Sent, Memory>
+    requires receive { receive_length ≤ receive_max }
     requires live { endpoint.old.link.state.ended ≡ None }
     requires planned { IsPlan (call_plan plan) }
     requires stags { endpoint.old.link.state.memory.next + regions_needed (call_plan plan) ≤ 2 ^ 32 }
@@ -198,11 +202,19 @@ fn hold_plan(
     ensures held { IfOk result (λ s. SentHeld endpoint.old.link.state.memory endpoint.new.link.state.memory s.claims) }
     ensures offer { IfOk result (λ s. IsOfferOf s.claims s.lists) }
     ensures staging { endpoint.new.staging ≡ endpoint.old.staging }
-    ensures outside { OnOk result (NothingOutside endpoint.old → NothingOutside endpoint.new) }
+    ensures outside { OnOk result (PartAdded receive_length (call_plan plan.entry) plan.entry.item_at endpoint.old endpoint.new) }
 {
     let stag = NUMBERS_END - endpoint.regions().stags_left();
     let lists = lists_of(alloc, stag, plan)?;
-    match hold_message(alloc, endpoint, xid, credit, plan, &lists) {
+    match hold_message(
+        alloc,
+        endpoint,
+        xid,
+        credit,
+        plan,
+        receive_length,
+        &lists,
+    ) {
         Ok(claims) => Ok(Sent { lists, claims }),
         Err(memory) => {
             drop(lists);
@@ -229,13 +241,13 @@ fn hold_with_room(
     ensures claims { IfOk result (λ s. s.sent.claims ≡ claims_of endpoint.old.link.state.memory (offered_of (call_plan plan.entry))) }
     ensures held { IfOk result (λ s. SentHeld endpoint.old.link.state.memory endpoint.new.link.state.memory s.sent.claims) }
     ensures offer { IfOk result (λ s. IsOfferOf s.sent.claims s.sent.lists) }
-    ensures room { IfOk result (λ s. (s.room.len ≡ receive_length + (total (call_plan plan.entry).write + (total (call_plan plan.entry).reply + 3))) × (s.room.len < 2 ^ 32)) }
+    ensures room { IfOk result (λ s. (s.room.len ≡ room_for receive_length (call_plan plan.entry)) × (s.room.len < 2 ^ 32)) }
     ensures empty { IfOk result (λ s. s.room.bytes ≡ []) }
     ensures staging { endpoint.new.staging ≡ endpoint.old.staging }
-    ensures outside { OnOk result (NothingOutside endpoint.old → NothingOutside endpoint.new) }
+    ensures outside { OnOk result (PartAdded receive_length (call_plan plan.entry) plan.entry.item_at endpoint.old endpoint.new) }
 {
     let room = reply_room(alloc, plan, receive_length)?;
-    match hold_plan(alloc, endpoint, xid, credit, plan) {
+    match hold_plan(alloc, endpoint, xid, credit, plan, receive_length) {
         Ok(sent) => Ok(SentCall { sent, room }),
         Err(memory) => {
             drop(room);
@@ -271,10 +283,10 @@ fn resume_planned(
     ensures claims { IfOk result (λ s. s.sent.claims ≡ claims_of endpoint.old.link.state.memory (offered_of (plan_again (stored_view stored.now) call.now))) }
     ensures held { IfOk result (λ s. SentHeld endpoint.old.link.state.memory endpoint.new.link.state.memory s.sent.claims) }
     ensures offer { IfOk result (λ s. IsOfferOf s.sent.claims s.sent.lists) }
-    ensures room { IfOk result (λ s. (s.room.len ≡ receive_length + (total (plan_again (stored_view stored.now) call.now).write + (total (plan_again (stored_view stored.now) call.now).reply + 3))) × (s.room.len < 2 ^ 32)) }
+    ensures room { IfOk result (λ s. (s.room.len ≡ room_for receive_length (plan_again (stored_view stored.now) call.now)) × (s.room.len < 2 ^ 32)) }
     ensures empty { IfOk result (λ s. s.room.bytes ≡ []) }
     ensures staging { endpoint.new.staging ≡ endpoint.old.staging }
-    ensures outside { OnOk result (NothingOutside endpoint.old → NothingOutside endpoint.new) }
+    ensures outside { OnOk result (PartAdded receive_length (plan_again (stored_view stored.now) call.now) (expected_item_at call.now.prog call.now.vers call.now.proc) endpoint.old endpoint.new) }
 {
     let outline = lengths.outline(stored.read_at);
     hold_with_room(
@@ -286,6 +298,7 @@ fn resume_planned(
             head,
             args: call.args.as_slice(),
             outline,
+            item_at: expected_item_at(call.prog, call.vers, call.proc),
         },
         receive_length,
     )
@@ -310,10 +323,10 @@ pub fn resume_call(
     ensures claims { IfOk result (λ s. s.sent.claims ≡ claims_of endpoint.old.link.state.memory (offered_of (plan_again (stored_view stored.now) call.now))) }
     ensures held { IfOk result (λ s. SentHeld endpoint.old.link.state.memory endpoint.new.link.state.memory s.sent.claims) }
     ensures offer { IfOk result (λ s. IsOfferOf s.sent.claims s.sent.lists) }
-    ensures room { IfOk result (λ s. (s.room.len ≡ receive_length + (total (plan_again (stored_view stored.now) call.now).write + (total (plan_again (stored_view stored.now) call.now).reply + 3))) × (s.room.len < 2 ^ 32)) }
+    ensures room { IfOk result (λ s. (s.room.len ≡ room_for receive_length (plan_again (stored_view stored.now) call.now)) × (s.room.len < 2 ^ 32)) }
     ensures empty { IfOk result (λ s. s.room.bytes ≡ []) }
     ensures staging { endpoint.new.staging ≡ endpoint.old.staging }
-    ensures outside { OnOk result (NothingOutside endpoint.old → NothingOutside endpoint.new) }
+    ensures outside { OnOk result (PartAdded receive_length (plan_again (stored_view stored.now) call.now) (expected_item_at call.now.prog call.now.vers call.now.proc) endpoint.old endpoint.new) }
 {
     let xid = stored.xid;
     let head = write_call_head(alloc, target_under(u64::from(xid), call), &call.cred)?;

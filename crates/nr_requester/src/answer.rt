@@ -1,9 +1,11 @@
 //! A call that was answered.
 
-ghost use Rattle.std.specs.Prelude.{◌≡◌};
+ghost use Rattle.std.specs.Prelude.{◌≡◌, None, Some, MatchOption};
+ghost use Rattle.nr_requester.specs.AnsweredCalls.{buffers_in, outcome_in, payload_in};
 
-use nr_reduce::{Call, Outcome};
+use nr_reduce::{Call, Outcome, PlacedPayload};
 use nr_xdr::Octets;
+use std::marker::Model;
 
 /// The buffers of a call's regions, which go back to its owner: those of its read chunk, its write chunk and its reply chunk, each if it
 /// had one with a segment.
@@ -17,25 +19,181 @@ pub struct Buffers {
     pub reply: Option<Octets>,
 }
 
-/// A call whose outcome came and wasn't handed over yet: the call, the buffers of its regions, and what it was answered by.
+/// The buffers of a call's regions, and what it was answered by. A payload that came through a chunk is kept where it came.
+#[derive(Drop)]
+pub enum AnswerBytes {
+    /// The payload, if there is one, has a buffer of its own.
+    Apart {
+        /// The buffers of the call's regions.
+        buffers: Buffers,
+        /// What it was answered by.
+        outcome: Outcome,
+    },
+    /// The payload is in the buffer of the write chunk's region, around the item that was placed there.
+    InWrite {
+        /// The buffer of the read chunk.
+        read: Option<Octets>,
+        /// The payload and the write chunk's region.
+        placed: PlacedPayload,
+        /// The buffer of the reply chunk.
+        reply: Option<Octets>,
+    },
+    /// The payload is the first bytes of the reply chunk's region.
+    InReply {
+        /// The buffer of the read chunk.
+        read: Option<Octets>,
+        /// The buffer of the write chunk.
+        write: Option<Octets>,
+        /// The payload and the reply chunk's region.
+        placed: PlacedPayload,
+    },
+}
+
+impl AnswerBytes {
+    /// The buffers. The outcome is dropped. Takes no memory.
+    fn into_buffers(self) -> Buffers
+        ensures { result ≡ buffers_in self }
+    {
+        match self {
+            AnswerBytes::Apart { buffers, .. } => buffers,
+            AnswerBytes::InWrite {
+                read,
+                placed,
+                reply,
+            } => Buffers {
+                read,
+                write: Some(placed.into_region()),
+                reply,
+            },
+            AnswerBytes::InReply {
+                read,
+                write,
+                placed,
+            } => Buffers {
+                read,
+                write,
+                reply: Some(placed.into_region()),
+            },
+        }
+    }
+
+    /// The outcome. The buffers are dropped. Takes no memory.
+    fn into_outcome(self) -> Outcome
+        ensures { result ≡ outcome_in self }
+    {
+        match self {
+            AnswerBytes::Apart { outcome, .. } => outcome,
+            AnswerBytes::InWrite { placed, .. } => Outcome::Reply(placed.into_payload()),
+            AnswerBytes::InReply { placed, .. } => Outcome::Reply(placed.into_payload()),
+        }
+    }
+}
+
+/// A call whose outcome came and wasn't handed over yet. Contracts see the xid under which it was accepted, the call, the buffers of its
+/// regions, and what it was answered by.
 #[derive(Drop)]
 pub struct AnsweredCall {
-    /// The xid under which it was accepted.
-    pub xid: u32,
-    /// The call.
-    pub call: Call,
-    /// The buffers of its regions.
-    pub buffers: Buffers,
-    /// What it was answered by.
-    pub outcome: Outcome,
+    xid: u32,
+    call: Call,
+    bytes: AnswerBytes,
+}
+
+impl Model for AnsweredCall {
+    ghost use Rattle.std.specs.Coded.{codes};
+    ghost use Rattle.nr_requester.specs.AnsweredCalls.{AnsweredCall, answered_view};
+
+    ghost Value = { AnsweredCall };
+
+    ghost coded = { Prim.hlevel (codes) };
+
+    ghost view = { λ a. answered_view a.xid a.call a.bytes };
 }
 
 impl AnsweredCall {
-    /// The call and its buffers. The answer is dropped.
-    pub(crate) fn into_call(self) -> (Call, Buffers)
+    /// The answer to a call that was accepted under this xid.
+    pub(crate) fn new(xid: u32, call: Call, bytes: AnswerBytes) -> AnsweredCall
+        ensures { result ≡ record { xid = xid; call = call; buffers = buffers_in bytes; outcome = outcome_in bytes } }
+    {
+        AnsweredCall { xid, call, bytes }
+    }
+
+    /// The xid under which it was accepted.
+    pub(crate) fn xid(&self) -> u32
+        ensures { result ≡ self.now.xid }
+    {
+        self.xid
+    }
+
+    /// The call and its buffers. The answer is dropped. Takes no memory.
+    pub(crate) fn into_buffers(self) -> (Call, Buffers)
         ensures { (result.0 ≡ self.call) × (result.1 ≡ self.buffers) }
     {
-        let AnsweredCall { call, buffers, .. } = self;
-        (call, buffers)
+        let AnsweredCall { call, bytes, .. } = self;
+        (call, bytes.into_buffers())
+    }
+
+    /// What the call was answered by. The call and its buffers are dropped. Takes no memory.
+    pub(crate) fn into_outcome(self) -> Outcome
+        ensures { result ≡ self.outcome }
+    {
+        let AnsweredCall { call, bytes, .. } = self;
+        drop(call);
+        bytes.into_outcome()
+    }
+}
+
+/// A call that was answered. Contracts see the call, the buffers of its regions, as they were when the answer came, and what it was answered
+/// by. One of the last two can be had: the bytes of a payload that came through a chunk are kept once.
+#[derive(Drop)]
+pub struct Done {
+    answer: AnsweredCall,
+}
+
+impl Model for Done {
+    ghost use Rattle.std.specs.Coded.{codes};
+    ghost use Rattle.nr_requester.specs.AnsweredCalls.{Done, done_view};
+
+    ghost Value = { Done };
+
+    ghost coded = { Prim.hlevel (codes) };
+
+    ghost view = { λ d. done_view d.answer };
+}
+
+impl Done {
+    /// The call that was answered.
+    pub(crate) fn new(answer: AnsweredCall) -> Done
+        ensures { result ≡ record { call = answer.call; buffers = answer.buffers; outcome = answer.outcome } }
+    {
+        Done { answer }
+    }
+
+    /// What the call was answered by. The call and its buffers are dropped. Takes no memory.
+    pub fn into_outcome(self) -> Outcome
+        ensures { result ≡ self.outcome }
+    {
+        self.answer.into_outcome()
+    }
+
+    /// The call and the buffers of its regions. What it was answered by is dropped. Takes no memory.
+    pub fn into_buffers(self) -> (Call, Buffers)
+        ensures { (result.0 ≡ self.call) × (result.1 ≡ self.buffers) }
+    {
+        self.answer.into_buffers()
+    }
+
+    /// The payload of the reply, if it was answered by one.
+    pub fn payload(&self) -> Option<&[u8]>
+        ensures { MatchOption result (payload_in self.now.outcome ≡ None) (λ bytes. payload_in self.now.outcome ≡ Some bytes.now) }
+    {
+        match &self.answer.bytes {
+            AnswerBytes::Apart {
+                outcome: Outcome::Reply(payload),
+                ..
+            } => Some(payload.as_slice()),
+            AnswerBytes::Apart { .. } => None,
+            AnswerBytes::InWrite { placed, .. } => Some(placed.payload()),
+            AnswerBytes::InReply { placed, .. } => Some(placed.payload()),
+        }
     }
 }

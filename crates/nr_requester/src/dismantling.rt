@@ -75,7 +75,7 @@ fn least_answer(answers: &[AnsweredCall]) -> Option<u32>
 {
     let mut least = None;
     'answers: for i in 0..answers.len() {
-        least = Some(lesser(least, answers[i].xid));
+        least = Some(lesser(least, answers[i].xid()));
     }
     least
 }

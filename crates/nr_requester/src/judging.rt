@@ -11,14 +11,15 @@ ghost use Rattle.nr_reduce.specs.ClientMessages.ReplyVerdict.{GivesOutcome};
 ghost use Rattle.nr_reduce.specs.Chunks.{Bytes};
 ghost use Rattle.nr_reduce.specs.KeptCalls.{KeptCall, kept_body, kept_by, kept_named, kept_message_verdict};
 ghost use Rattle.nr_reduce.specs.KeptClient.{bytes_under};
-ghost use Rattle.nr_regions.specs.RegisteredMemory.{AreHeldFrom};
+ghost use Rattle.nr_endpoint.specs.declared.offering.Claims.{Claims};
+ghost use Rattle.nr_regions.specs.RegisteredMemory.{AreHeldFrom, RegisteredMemory};
 ghost use Rattle.nr_requester.specs.HeldClaims.{call_claims, all_claims, OffersOwn};
-ghost use Rattle.nr_requester.specs.Judged.{header_reason, Ends, SameCall, outcome_by, LiesWithin, kept_view, kept_views, SameCalls, Brings};
-ghost use Rattle.nr_requester.specs.Views.{HasRoom, given_stags, names_another, own_named};
+ghost use Rattle.nr_requester.specs.Judged.{header_reason, Ends, outcome_by, LiesWithin, kept_view, kept_views, Brings};
+ghost use Rattle.nr_requester.specs.Views.{given_stags, names_another, own_named};
 ghost use Rattle.nr_requester.specs.RequesterState.{stags_of};
 
 use crate::outstanding::{OutstandingCall, given_by, is_given};
-use crate::replies::{Found, long_stream, of_call, reply_found};
+use crate::replies::{Found, StreamPlace, long_stream, of_call, reply_item};
 use nr_header::{
     HeaderFault, HeaderFields, ListsRoom, MessageKind, TransportError, read_header_into,
 };
@@ -56,8 +57,8 @@ fn call_at(calls: &[OutstandingCall], sent: u64, xid: u32) -> Option<usize>
 
 /// What an error message brings for its call.
 fn error_found(error: TransportError) -> Found
-    ensures is { (c : KeptCall) (memory : Bytes) (message room : List ℕ) (version : ℕ) → kept_body c memory message (error_body version error) ≡ GivesOutcome c.xid (outcome_by result room) }
-    ensures within { (room : List ℕ) → LiesWithin result room }
+    ensures is { (c : KeptCall) (memory : Bytes) (message : List ℕ) (version : ℕ) (m : RegisteredMemory) (claims : Claims) → kept_body c memory message (error_body version error) ≡ GivesOutcome c.xid (outcome_by result message m claims) }
+    ensures within { (len : ℕ) (claims : Claims) → LiesWithin result len claims }
 {
     match error {
         TransportError::Vers { low, high } => Found::Version { low, high },
@@ -68,19 +69,17 @@ fn error_found(error: TransportError) -> Found
 /// What a message of this kind with these lists brings for its call, or why it ends the link. Takes no memory.
 fn found(
     regions: &Regions,
-    call: &mut OutstandingCall,
+    call: &OutstandingCall,
     kind: MessageKind,
     lists: &ListsRoom,
     message: &[u8],
 ) -> Result<Found, u32>
-    requires held { AreHeldFrom regions.now.memory 0 (call_claims call.old.claims) }
-    requires offers { OffersOwn call.old }
-    requires room { HasRoom (length message.now) call.old }
+    requires held { AreHeldFrom regions.now.memory 0 (call_claims call.now.claims) }
+    requires offers { OffersOwn call.now }
     requires stream { StreamWithin (body_with kind lists.now) (length message.now) }
-    ensures ok { IfOk result (λ f. (sent : ℕ) → kept_body (kept_view sent call.old) (bytes_under regions.now.memory) message.now (body_with kind lists.now) ≡ GivesOutcome call.old.xid (outcome_by f call.new.room.bytes)) }
-    ensures within { IfOk result (λ f. LiesWithin f call.new.room.bytes) }
-    ensures err { IfErr result (λ reason. (sent : ℕ) → Ends (kept_body (kept_view sent call.old) (bytes_under regions.now.memory) message.now (body_with kind lists.now)) reason) }
-    ensures same { SameCall call.old call.new }
+    ensures ok { IfOk result (λ f. (sent : ℕ) → kept_body (kept_view sent call.now) (bytes_under regions.now.memory) message.now (body_with kind lists.now) ≡ GivesOutcome call.now.xid (outcome_by f message.now regions.now.memory call.now.claims)) }
+    ensures within { IfOk result (λ f. LiesWithin f (length message.now) call.now.claims) }
+    ensures err { IfErr result (λ reason. (sent : ℕ) → Ends (kept_body (kept_view sent call.now) (bytes_under regions.now.memory) message.now (body_with kind lists.now)) reason) }
 {
     match kind {
         MessageKind::Msg { stream_at } => {
@@ -92,7 +91,11 @@ fn found(
                 return Ok(Found::Nothing);
             };
             let (_, stream) = message.split_at(stream_at);
-            reply_found(regions, call, &of, stream, back.write)
+            let item = reply_item(regions, call, &of, stream, back.write)?;
+            Ok(Found::Reply {
+                stream: StreamPlace::Message { at: stream_at },
+                item,
+            })
         }
         MessageKind::Nomsg => {
             let back = lists.as_slices();
@@ -103,7 +106,11 @@ fn found(
                 return Ok(Found::Nothing);
             };
             let stream = long_stream(regions, &call.claims.reply, back.reply);
-            reply_found(regions, call, &of, stream, back.write)
+            let item = reply_item(regions, call, &of, stream, back.write)?;
+            Ok(Found::Reply {
+                stream: StreamPlace::Region { len: stream.len() },
+                item,
+            })
         }
         MessageKind::Error { error, .. } => Ok(error_found(error)),
     }
@@ -136,7 +143,7 @@ fn own_of(call: &OutstandingCall, named: Option<u32>) -> Option<u32>
 /// ends the link. The message names an STag, or none.
 fn by_header(
     regions: &Regions,
-    calls: &mut [OutstandingCall],
+    calls: &[OutstandingCall],
     sent: u64,
     header: HeaderFields,
     lists: &ListsRoom,
@@ -144,14 +151,12 @@ fn by_header(
     message: &[u8],
 ) -> (Option<u32>, Result<(usize, Found), u32>)
     requires header { with_lists lists.now (Ok header) ≡ header_of message.now }
-    requires held { AreHeldFrom regions.now.memory 0 (all_claims calls.old) }
-    requires offers { AllByRecursion OffersOwn calls.old }
-    requires rooms { AllByRecursion (HasRoom (length message.now)) calls.old }
+    requires held { AreHeldFrom regions.now.memory 0 (all_claims calls.now) }
+    requires offers { AllByRecursion OffersOwn calls.now }
     requires stream { StreamWithin (body_with header.kind lists.now) (length message.now) }
-    ensures own { result.0 ≡ kept_named (kept_views sent calls.old) named message.now }
-    ensures ok { IfOk result.1 (λ f. Brings sent calls.old calls.new (bytes_under regions.now.memory) named message.now f.0 f.1) }
-    ensures err { IfErr result.1 (λ reason. Ends (kept_message_verdict (kept_views sent calls.old) (bytes_under regions.now.memory) named message.now) reason) }
-    ensures same { SameCalls calls.old calls.new }
+    ensures own { result.0 ≡ kept_named (kept_views sent calls.now) named message.now }
+    ensures ok { IfOk result.1 (λ f. Brings sent calls.now regions.now.memory named message.now f.0 f.1) }
+    ensures err { IfErr result.1 (λ reason. Ends (kept_message_verdict (kept_views sent calls.now) (bytes_under regions.now.memory) named message.now) reason) }
 {
     let Some(at) = call_at(calls, sent, header.xid) else {
         return (None, Err(REASON_CALL));
@@ -160,7 +165,7 @@ fn by_header(
     if names_another(&calls[at], named) {
         return (own, Err(REASON_INVALIDATED));
     }
-    match found(regions, &mut calls[at], header.kind, lists, message) {
+    match found(regions, &calls[at], header.kind, lists, message) {
         Ok(found) => (own, Ok((at, found))),
         Err(reason) => (own, Err(reason)),
     }
@@ -169,21 +174,19 @@ fn by_header(
 /// The same of a message whose lists are read into this room.
 fn judged(
     regions: &Regions,
-    calls: &mut [OutstandingCall],
+    calls: &[OutstandingCall],
     sent: u64,
     room: &mut ListsRoom,
     named: Option<u32>,
     message: &[u8],
 ) -> (Option<u32>, Result<(usize, Found), u32>)
     requires empty { room.old ≡ no_lists }
-    requires held { AreHeldFrom regions.now.memory 0 (all_claims calls.old) }
-    requires offers { AllByRecursion OffersOwn calls.old }
-    requires rooms { AllByRecursion (HasRoom (length message.now)) calls.old }
+    requires held { AreHeldFrom regions.now.memory 0 (all_claims calls.now) }
+    requires offers { AllByRecursion OffersOwn calls.now }
     requires message { 16 ≤ length message.now }
-    ensures own { result.0 ≡ kept_named (kept_views sent calls.old) named message.now }
-    ensures ok { IfOk result.1 (λ f. Brings sent calls.old calls.new (bytes_under regions.now.memory) named message.now f.0 f.1) }
-    ensures err { IfErr result.1 (λ reason. Ends (kept_message_verdict (kept_views sent calls.old) (bytes_under regions.now.memory) named message.now) reason) }
-    ensures same { SameCalls calls.old calls.new }
+    ensures own { result.0 ≡ kept_named (kept_views sent calls.now) named message.now }
+    ensures ok { IfOk result.1 (λ f. Brings sent calls.now regions.now.memory named message.now f.0 f.1) }
+    ensures err { IfErr result.1 (λ reason. Ends (kept_message_verdict (kept_views sent calls.now) (bytes_under regions.now.memory) named message.now) reason) }
 {
     match read_header_into(message, room) {
         Ok(header) => by_header(regions, calls, sent, header, room, named, message),
@@ -195,24 +198,22 @@ fn judged(
 /// by its place, and what it brings for it, or why it ends the link. Takes no memory.
 pub fn verdict(
     regions: &Regions,
-    calls: &mut Vec<OutstandingCall>,
+    calls: &[OutstandingCall],
     sent: u64,
     named: Option<u32>,
     message: &[u8],
 ) -> (Option<u32>, Result<(usize, Found), u32>)
-    requires held { AreHeldFrom regions.now.memory 0 (all_claims calls.old.items) }
-    requires offers { AllByRecursion OffersOwn calls.old.items }
-    requires rooms { AllByRecursion (HasRoom (length message.now)) calls.old.items }
+    requires held { AreHeldFrom regions.now.memory 0 (all_claims calls.now) }
+    requires offers { AllByRecursion OffersOwn calls.now }
     requires message { 16 ≤ length message.now }
-    ensures own { result.0 ≡ kept_named (kept_views sent calls.old.items) named message.now }
-    ensures ok { IfOk result.1 (λ f. Brings sent calls.old.items calls.new.items (bytes_under regions.now.memory) named message.now f.0 f.1) }
-    ensures err { IfErr result.1 (λ reason. Ends (kept_message_verdict (kept_views sent calls.old.items) (bytes_under regions.now.memory) named message.now) reason) }
-    ensures same { SameCalls calls.old.items calls.new.items }
+    ensures own { result.0 ≡ kept_named (kept_views sent calls.now) named message.now }
+    ensures ok { IfOk result.1 (λ f. Brings sent calls.now regions.now.memory named message.now f.0 f.1) }
+    ensures err { IfErr result.1 (λ reason. Ends (kept_message_verdict (kept_views sent calls.now) (bytes_under regions.now.memory) named message.now) reason) }
 {
     let mut room = ListsRoom::new();
     judged(
         regions,
-        calls.as_mut_slice(),
+        calls,
         sent,
         &mut room,
         named,

@@ -39,7 +39,7 @@ mod taking;
 mod ticket;
 mod window;
 
-pub use answer::{AnsweredCall, Buffers};
+pub use answer::{AnsweredCall, Buffers, Done};
 pub use dismantling::Remains;
 pub use laws::{
     calls_go_on, earlier_links_are_kept, earlier_links_keep_their_law, first_links_are_kept,
@@ -48,5 +48,5 @@ pub use laws::{
     stopped_requesters_keep_their_law,
 };
 pub use requester::Requester;
-pub use taking::{Done, Take};
+pub use taking::Take;
 pub use ticket::Ticket;

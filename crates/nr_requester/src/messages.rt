@@ -7,12 +7,14 @@ ghost use Rattle.nr_header.specs.declared.header.ChunkLists.{ChunkLists};
 ghost use Rattle.nr_header.specs.Header.{header_encoding, lists_body, ChunksFit};
 ghost use Rattle.nr_header.specs.Slices.{lists_of_slices};
 ghost use Rattle.nr_requester.specs.HeldBytes.{receive_max};
-ghost use Rattle.nr_requester.specs.Sending.{AreFew, some_if, offered_of, call_plan};
+ghost use Rattle.nr_endpoint.specs.Offering.{part_bytes};
+ghost use Rattle.nr_requester.specs.Sending.{AreFew, Offers, some_if, offered_of, call_plan, room_for, stream_room};
 
 use crate::offered::OfferedLists;
 use nr_endpoint::Offered;
 use nr_header::{Chunk, ListSlices, RdmaSegment, ReadSegment, write_with_slices};
 use nr_reduce::{ChunkLengths, Outline, PayloadBuffer};
+use nr_regions::Window;
 use nr_xdr::{Memory, Octets};
 use std::alloc::Global;
 
@@ -30,6 +32,8 @@ pub struct PlannedCall<'a> {
     pub args: &'a [u8],
     /// What is sent inline, and the lengths of the chunks that are offered.
     pub outline: Outline<'a>,
+    /// Where the item of its reply is expected.
+    pub item_at: usize,
 }
 
 fn push_segments(
@@ -334,6 +338,33 @@ fn zeros_for(alloc: Global, lengths: ChunkLengths<'_>) -> Result<Option<Octets>,
     Ok(Some(Octets::from_vec(vec![in alloc; 0u8; len]?)))
 }
 
+/// The buffer of the write chunk's region, if it has a segment: zeros, with room before it and behind it, so that the payload of the reply can
+/// be completed there.
+fn part_of(
+    alloc: Global,
+    item_at: usize,
+    tail: usize,
+    lengths: Option<ChunkLengths<'_>>,
+) -> Result<Option<Window>, Memory>
+    requires few { IfSome (chunk_lengths lengths) (λ lengths. length lengths < 2 ^ 31) }
+    ensures bytes { IfOk result (λ part. part_bytes part ≡ some_if (has_segment (chunk_lengths lengths)) (replicate (total (chunk_lengths lengths)) 0)) }
+    ensures around { IfOk result (λ part. IfSome part (λ p. (length p.outside.front ≡ item_at) × (length p.outside.rest ≡ tail))) }
+{
+    let lengths = match lengths {
+        Some(lengths) => lengths,
+        None => return Ok(None),
+    };
+    if lengths.count() == 0 {
+        return Ok(None);
+    }
+    let len = chunk_len(lengths);
+    if len > CHUNK_MAX {
+        return Err(Memory);
+    }
+    let buf = Octets::from_vec(vec![in alloc; 0u8; item_at + len as usize + tail]?);
+    Ok(Some(Window::new(buf, item_at, len as usize)))
+}
+
 /// The bytes of the read chunk's region, if it has a segment: the arguments are copied into it.
 fn region_of(alloc: Global, plan: PlannedCall<'_>) -> Result<Option<Octets>, Memory>
     ensures { IfOk result (λ r. r ≡ some_if (has_segment (Some (call_plan plan.entry).read)) (call_plan plan.entry).region) }
@@ -349,12 +380,18 @@ fn region_of(alloc: Global, plan: PlannedCall<'_>) -> Result<Option<Octets>, Mem
 }
 
 /// The buffers that a plan offers.
-pub fn offered_of(alloc: Global, plan: PlannedCall<'_>) -> Result<Offered, Memory>
+pub fn offered_of(
+    alloc: Global,
+    plan: PlannedCall<'_>,
+    receive_length: u32,
+) -> Result<Offered, Memory>
     requires few { AreFew (call_plan plan) }
-    ensures { IfOk result (λ o. o ≡ offered_of (call_plan plan.entry)) }
+    ensures offers { IfOk result (λ o. Offers o (call_plan plan.entry)) }
+    ensures around { IfOk result (λ o. IfSome o.write (λ p. (length p.outside.front ≡ plan.entry.item_at) × (length p.outside.rest ≡ stream_room receive_length (call_plan plan.entry)))) }
 {
+    let tail = stream_room(plan, receive_length)?;
     let read = region_of(alloc, plan)?;
-    let write = zeros(alloc, plan.outline.write)?;
+    let write = part_of(alloc, plan.item_at, tail, plan.outline.write)?;
     match zeros(alloc, plan.outline.reply) {
         Ok(reply) => Ok(Offered { read, write, reply }),
         Err(memory) => {
@@ -376,8 +413,23 @@ fn total_of(lengths: Option<ChunkLengths<'_>>) -> u64
     }
 }
 
-/// The room in which the payload of a reply is put together: that of a receive, of both chunks of the plan, and of an item's pad. No
-/// chunk of a plan has 2^30 bytes; of one that had, it would be out of memory.
+/// How many bytes the stream of a reply can have, and a pad: those of a receive, or of the reply chunk. No chunk of a plan has 2^30
+/// bytes; of one that had, it would be out of memory.
+fn stream_room(plan: PlannedCall<'_>, receive_length: u32) -> Result<usize, Memory>
+    requires few { AreFew (call_plan plan) }
+    requires receive { receive_length ≤ receive_max }
+    ensures is { IfOk result (λ len. len ≡ stream_room receive_length (call_plan plan.entry)) }
+    ensures small { IfOk result (λ len. len < 2 ^ 31) }
+{
+    let reply = total_of(plan.outline.reply);
+    if reply > CHUNK_MAX {
+        return Err(Memory);
+    }
+    Ok((u64::from(receive_length).max(reply) + PAD_MAX) as usize)
+}
+
+/// The room of a call: for the stream of a reply that comes in its message, or for the bytes of the write chunk's region that the payload's end
+/// replaces.
 pub fn reply_room(
     alloc: Global,
     plan: PlannedCall<'_>,
@@ -385,17 +437,11 @@ pub fn reply_room(
 ) -> Result<PayloadBuffer, Memory>
     requires few { AreFew (call_plan plan) }
     requires receive { receive_length ≤ receive_max }
-    ensures len { IfOk result (λ room. (room.len ≡ receive_length + (total (call_plan plan.entry).write + (total (call_plan plan.entry).reply + 3))) × (room.len < 2 ^ 32)) }
+    ensures len { IfOk result (λ room. (room.len ≡ room_for receive_length (call_plan plan.entry)) × (room.len < 2 ^ 32)) }
     ensures empty { IfOk result (λ room. room.bytes ≡ []) }
 {
-    let write = total_of(plan.outline.write);
-    let reply = total_of(plan.outline.reply);
-    if write > CHUNK_MAX {
-        return Err(Memory);
+    if region_count_of(plan.outline.write) == 0 {
+        return PayloadBuffer::new(alloc, (u64::from(receive_length) + PAD_MAX) as usize);
     }
-    if reply > CHUNK_MAX {
-        return Err(Memory);
-    }
-    let len = u64::from(receive_length) + (write + (reply + PAD_MAX));
-    PayloadBuffer::new(alloc, len as usize)
+    PayloadBuffer::new(alloc, stream_room(plan, receive_length)?)
 }

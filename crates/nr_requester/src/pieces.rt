@@ -29,16 +29,16 @@ ghost use Rattle.nr_requester.specs.Resends.{after_feed, KeepsPiece};
 ghost use Rattle.nr_requester.specs.Standing.{StandsOn, RequesterRepresents, RequesterRunsOut};
 ghost use Rattle.nr_requester.specs.Views.{stored_view};
 
-use crate::answer::{AnsweredCall, Buffers};
+use crate::answer::{AnswerBytes, AnsweredCall};
 use crate::judging::verdict;
 use crate::outstanding::OutstandingCall;
-use crate::releasing::{live_claims, release_claims, with_releases};
+use crate::releasing::{answer_by, live_claims, release_claims, with_releases};
 use crate::replies::Found;
 use crate::requester::{Requester, marks_if};
-use nr_endpoint::{Endpoint, Event};
+use nr_endpoint::{Claims, Endpoint, Event};
 use nr_header::credit_of;
 use nr_link::End;
-use nr_reduce::{CREDITS_MAX, Call, Outcome, PayloadBuffer};
+use nr_reduce::{CREDITS_MAX, Call, Outcome, PayloadBuffer, expected_item_at};
 use nr_xdr::Octets;
 
 /// The credits that a credit word grants.
@@ -56,32 +56,6 @@ fn credits_of(word: u32) -> u32
     word
 }
 
-/// Keeps the answer of a call for its owner, if that awaits it.
-fn keep_answer(
-    answered: &mut Vec<AnsweredCall>,
-    xid: u32,
-    call: Option<Call>,
-    buffers: Buffers,
-    outcome: Option<Outcome>,
-)
-    requires { vec_len answered.old < vec_capacity answered.old }
-    ensures items { answered.new.items ≡ answered.old.items ++ answer_with xid call buffers outcome }
-    ensures capacity { vec_capacity answered.new ≡ vec_capacity answered.old }
-{
-    let Some(call) = call else {
-        return;
-    };
-    let Some(outcome) = outcome else {
-        return;
-    };
-    answered.push_reserved(AnsweredCall {
-        xid,
-        call,
-        buffers,
-        outcome,
-    });
-}
-
 /// The call, if its owner awaits the answer.
 fn awaited(call: Option<Call>, is_forgotten: bool) -> Option<Call>
     ensures { result ≡ (if is_forgotten then None else call) }
@@ -92,16 +66,56 @@ fn awaited(call: Option<Call>, is_forgotten: bool) -> Option<Call>
     call
 }
 
-/// What a message brings, with the room in which its payload is.
-fn outcome_in(found: Found, room: PayloadBuffer) -> Option<Outcome>
-    requires { LiesWithin found room.bytes }
-    ensures { result ≡ outcome_by found room.bytes }
+/// Releases the regions of a call whose owner doesn't await the answer. Takes no memory.
+fn let_go(endpoint: &mut Endpoint, claims: Claims, room: PayloadBuffer)
+    requires { AreHeldFrom endpoint.old.link.state.memory 0 (call_claims claims) }
+    ensures link { endpoint.new.link ≡ with_memory (released_all endpoint.old.link.state.memory (stags_of claims)) endpoint.old.link }
+    ensures staging { endpoint.new.staging ≡ endpoint.old.staging }
+    ensures outside { endpoint.new.outside ≡ without_claims claims endpoint.old.outside }
+{
+    drop(room);
+    drop(release_claims(endpoint, claims));
+}
+
+/// Releases the regions of a call that a message answers; the buffers, and what it was answered by. `None` if the call's memory was revoked.
+/// Takes no memory.
+fn answer_bytes(
+    endpoint: &mut Endpoint,
+    call: &Call,
+    claims: Claims,
+    room: PayloadBuffer,
+    message: &[u8],
+    found: Found,
+) -> Option<AnswerBytes>
+    requires held { AreHeldFrom endpoint.old.link.state.memory 0 (call_claims claims) }
+    requires lies { LiesWithin found (length message.now) claims }
+    requires room { HasReplyRoom (length message.now) claims room.len }
+    requires around { HasPart (length message.now) (expected_item_at call.now.prog call.now.vers call.now.proc) claims endpoint.old }
+    ensures bytes { MatchOption result (outcome_by found message.now endpoint.old.link.state.memory claims ≡ None)
+        (λ bytes. (buffers_in bytes ≡ buffers_under endpoint.old.link.state.memory claims) × (outcome_by found message.now endpoint.old.link.state.memory claims ≡ Some (outcome_in bytes))) }
+    ensures link { endpoint.new.link ≡ with_memory (released_all endpoint.old.link.state.memory (stags_of claims)) endpoint.old.link }
+    ensures staging { endpoint.new.staging ≡ endpoint.old.staging }
+    ensures outside { endpoint.new.outside ≡ without_claims claims endpoint.old.outside }
 {
     match found {
-        Found::Nothing => None,
-        Found::Reply { len } => Some(Outcome::Reply(room.into_first(len))),
-        Found::Chunk => Some(Outcome::Chunk),
-        Found::Version { low, high } => Some(Outcome::Version { low, high }),
+        Found::Nothing => {
+            let_go(endpoint, claims, room);
+            None
+        }
+        Found::Reply { stream, item } => {
+            let item_at = expected_item_at(call.prog, call.vers, call.proc);
+            Some(answer_by(
+                endpoint, claims, room, item_at, message, stream, item,
+            ))
+        }
+        Found::Chunk => Some(AnswerBytes::Apart {
+            buffers: release_claims(endpoint, claims),
+            outcome: Outcome::Chunk,
+        }),
+        Found::Version { low, high } => Some(AnswerBytes::Apart {
+            buffers: release_claims(endpoint, claims),
+            outcome: Outcome::Version { low, high },
+        }),
     }
 }
 
@@ -113,20 +127,23 @@ fn complete(
     answered: &mut Vec<AnsweredCall>,
     releases: &mut u64,
     at: usize,
+    message: &[u8],
     found: Found,
 )
     requires at { at < length outstanding.old.items }
     requires held { (d : OutstandingCall) → AreHeldFrom endpoint.old.link.state.memory 0 (call_claims (get_or outstanding.old.items at d).claims) }
-    requires within { (d : OutstandingCall) → LiesWithin found (get_or outstanding.old.items at d).room.bytes }
+    requires within { (d : OutstandingCall) → LiesWithin found (length message.now) (get_or outstanding.old.items at d).claims }
+    requires rooms { (d : OutstandingCall) → HasReplyRoom (length message.now) (get_or outstanding.old.items at d).claims (get_or outstanding.old.items at d).room.len }
+    requires around { (d : OutstandingCall) → HasParts (length message.now) (get_or outstanding.old.items at d) endpoint.old }
     requires room { vec_len answered.old < vec_capacity answered.old }
     ensures link { (d : OutstandingCall) → endpoint.new.link ≡ with_memory (released_all endpoint.old.link.state.memory (stags_of (get_or outstanding.old.items at d).claims)) endpoint.old.link }
     ensures outstanding { outstanding.new.items ≡ remove outstanding.old.items at }
     ensures answered { (d : OutstandingCall) → answered.new.items ≡ answered.old.items
-        ++ answered_as endpoint.old.link.state.memory (stored_view (get_or outstanding.old.items at d)) (awaited_call (stored_view (get_or outstanding.old.items at d))) (outcome_by found (get_or outstanding.old.items at d).room.bytes) }
+        ++ answered_as endpoint.old.link.state.memory (stored_view (get_or outstanding.old.items at d)) (awaited_call (stored_view (get_or outstanding.old.items at d))) (outcome_by found message.now endpoint.old.link.state.memory (get_or outstanding.old.items at d).claims) }
     ensures capacity { vec_capacity answered.new ≡ vec_capacity answered.old }
     ensures releases { (d : OutstandingCall) → releases.new ≡ with_releases (live_count endpoint.old.link.state.memory (stags_of (get_or outstanding.old.items at d).claims)) releases.old }
     ensures staging { endpoint.new.staging ≡ endpoint.old.staging }
-    ensures outside { NothingOutside endpoint.old → NothingOutside endpoint.new }
+    ensures outside { (d : OutstandingCall) → endpoint.new.outside ≡ without_claims (get_or outstanding.old.items at d).claims endpoint.old.outside }
 {
     let OutstandingCall {
         xid,
@@ -139,9 +156,14 @@ fn complete(
     } = outstanding.remove(at);
     drop(offered);
     *releases = with_releases(live_claims(endpoint, &claims), *releases);
-    let buffers = release_claims(endpoint, claims);
-    let outcome = outcome_in(found, room);
-    keep_answer(answered, xid, awaited(call, is_forgotten), buffers, outcome);
+    let Some(call) = awaited(call, is_forgotten) else {
+        let_go(endpoint, claims, room);
+        return;
+    };
+    match answer_bytes(endpoint, &call, claims, room, message, found) {
+        Some(bytes) => answered.push_reserved(AnsweredCall::new(xid, call, bytes)),
+        None => drop(call),
+    }
 }
 
 /// The region under an STag dies, if there is one: the peer reaches it no more, and it is held with its bytes until it is released.
@@ -205,15 +227,32 @@ fn take_message(
 {
     let (message, _) = buf.as_slice().split_at(len);
     let credits = credits_of(credit_of(message));
-    let (own, found) = verdict(endpoint.regions(), outstanding, sent, named, message);
-    endpoint.post(buf);
+    let (own, found) = verdict(
+        endpoint.regions(),
+        outstanding.as_slice(),
+        sent,
+        named,
+        message,
+    );
     match found {
         Ok((at, found)) => {
             *grant = credits;
             invalidate_named(endpoint, own);
-            complete(endpoint, outstanding, answered, releases, at, found);
+            complete(
+                endpoint,
+                outstanding,
+                answered,
+                releases,
+                at,
+                message,
+                found,
+            );
+            endpoint.post(buf);
         }
-        Err(reason) => stop(endpoint, own, reason),
+        Err(reason) => {
+            endpoint.post(buf);
+            stop(endpoint, own, reason);
+        }
     }
 }
 

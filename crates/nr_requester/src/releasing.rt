@@ -11,8 +11,10 @@ ghost use Rattle.nr_requester.specs.AfterCalls.{live_count};
 ghost use Rattle.nr_requester.specs.AfterPiece.{buffer_under, buffers_under};
 ghost use Rattle.nr_requester.specs.CountedMarks.{with_releases};
 
-use crate::answer::Buffers;
+use crate::answer::{AnswerBytes, Buffers};
+use crate::replies::StreamPlace;
 use nr_endpoint::{Claims, Endpoint};
+use nr_reduce::{Item, Outcome, PayloadBuffer, PlacedPayload};
 use nr_regions::Registration;
 use nr_xdr::Octets;
 
@@ -77,4 +79,120 @@ pub fn release_claims(endpoint: &mut Endpoint, claims: Claims) -> Buffers
     let write = release_some(endpoint, write);
     let reply = release_some(endpoint, reply);
     Buffers { read, write, reply }
+}
+
+/// Releases the region of a write chunk; its buffer, with what is before the region and behind it.
+#[tactic(auto, unfolding(nr_endpoint::specs::Calls::after_call))]
+fn release_around(endpoint: &mut Endpoint, claim: Registration) -> Octets
+    requires { IsHeld endpoint.old.link.state.memory claim }
+    ensures buffer { result ≡ buffer_around (outside_at (regions_of endpoint.old) claim.stag) (bytes_under endpoint.old.link.state.memory claim.stag) }
+    ensures link { endpoint.new.link ≡ with_memory (released_all endpoint.old.link.state.memory (claim.stag ∷ [])) endpoint.old.link }
+    ensures staging { endpoint.new.staging ≡ endpoint.old.staging }
+    ensures outside { endpoint.new.outside ≡ remove endpoint.old.outside claim.stag }
+{
+    endpoint.release_buffer(claim)
+}
+
+/// The buffers of a call and its reply, which is the stream alone: copied into the room of the call, or as it stands in the region of the reply
+/// chunk.
+fn stream_answer(
+    buffers: Buffers,
+    room: PayloadBuffer,
+    message: &[u8],
+    stream: StreamPlace,
+) -> AnswerBytes
+    requires lies { StreamIn stream (length message.now) buffers }
+    requires room { length message.now ≤ room.len }
+    ensures buffers { buffers_in result ≡ buffers }
+    ensures outcome { outcome_in result ≡ outcomes.Reply (stream_in stream message.now buffers) }
+{
+    let mut room = room;
+    match stream {
+        StreamPlace::Message { at } => {
+            let (_, stream) = message.split_at(at);
+            room.put(0, stream);
+            AnswerBytes::Apart {
+                buffers,
+                outcome: Outcome::Reply(room.into_first(stream.len())),
+            }
+        }
+        StreamPlace::Region { len } => {
+            let Buffers { read, write, reply } = buffers;
+            let Some(reply) = reply else {
+                unreachable!();
+            };
+            AnswerBytes::InReply {
+                read,
+                write,
+                placed: PlacedPayload::in_region(reply, len, room.into_first(0)),
+            }
+        }
+    }
+}
+
+/// The stream of a reply, in its message or in the buffer of the reply chunk.
+fn stream_of<'a>(message: &'a [u8], reply: &'a Option<Octets>, stream: StreamPlace) -> &'a [u8]
+    requires { IfPlaced stream (length message.now) reply.now }
+    ensures { result.now ≡ stream_at stream message.now reply.now }
+{
+    match stream {
+        StreamPlace::Message { at } => {
+            let (_, stream) = message.split_at(at);
+            stream
+        }
+        StreamPlace::Region { len } => match reply {
+            Some(reply) => {
+                let (stream, _) = reply.as_slice().split_at(len);
+                stream
+            }
+            None => &[],
+        },
+    }
+}
+
+/// Releases the regions of a call that is answered by a reply, and puts its payload together: around its item, where that was placed, if it has one.
+/// The region of the write chunk begins at `item_at` of its buffer. Takes no memory.
+pub fn answer_by(
+    endpoint: &mut Endpoint,
+    claims: Claims,
+    room: PayloadBuffer,
+    item_at: usize,
+    message: &[u8],
+    stream: StreamPlace,
+    item: Option<Item>,
+) -> AnswerBytes
+    requires held { AreHeldFrom endpoint.old.link.state.memory 0 (call_claims claims) }
+    requires lies { LiesWithin (founds.Reply stream item) (length message.now) claims }
+    requires room { HasReplyRoom (length message.now) claims room.len }
+    requires around { HasPart (length message.now) item_at claims endpoint.old }
+    ensures buffers { buffers_in result ≡ buffers_under endpoint.old.link.state.memory claims }
+    ensures outcome { Some (outcome_in result) ≡ outcome_by (founds.Reply stream item) message.now endpoint.old.link.state.memory claims }
+    ensures link { endpoint.new.link ≡ with_memory (released_all endpoint.old.link.state.memory (stags_of claims)) endpoint.old.link }
+    ensures staging { endpoint.new.staging ≡ endpoint.old.staging }
+    ensures outside { endpoint.new.outside ≡ without_claims claims endpoint.old.outside }
+{
+    let Some(item) = item else {
+        return stream_answer(release_claims(endpoint, claims), room, message, stream);
+    };
+    let Claims { read, write, reply } = claims;
+    let Some(write) = write else {
+        unreachable!();
+    };
+    let region_len = write.len() as usize;
+    let read = release_some(endpoint, read);
+    let buffer = release_around(endpoint, write);
+    let reply = release_some(endpoint, reply);
+    let placed = PlacedPayload::complete(
+        buffer,
+        item_at,
+        region_len,
+        room,
+        stream_of(message, &reply, stream),
+        &item,
+    );
+    AnswerBytes::InWrite {
+        read,
+        placed,
+        reply,
+    }
 }

@@ -1,6 +1,6 @@
 //! What a reply brings for its call, by its stream and its chunks (RFC 8166 section 3.4).
 
-ghost use Rattle.std.specs.Prelude.{◌≡◌, ℕ, ◌+◌, ◌^◌, ◌<◌, ◌≤◌, min, List, length, option_map, None, Some, Ok, MatchOption, IfSome, IfOk, IfErr};
+ghost use Rattle.std.specs.Prelude.{◌≡◌, ℕ, ◌≤◌, min, true, List, length, option_map, is_some, None, Some, Ok, MatchOption, IfSome, IfOk, IfErr};
 ghost use Rattle.nr_rpc.specs.Reading.{reply_of};
 ghost use Rattle.nr_reduce.specs.Chunks.{chunk_total, joined_bytes, reply_moved, reply_stream, some_bytes, whole};
 ghost use Rattle.nr_reduce.specs.ClientMessages.{reply_by_payload, reply_xid};
@@ -12,25 +12,35 @@ ghost use Rattle.nr_reduce.specs.declared.call.Call.{Call};
 ghost use Rattle.nr_reduce.specs.declared.call.Outcome.TheVariants as outcomes;
 ghost use Rattle.nr_reduce.specs.declared.item.Of.TheVariants.{Reply as OfReply};
 ghost use Rattle.nr_requester.specs.Views.{claim_len};
-ghost use Rattle.nr_requester.specs.Judged.{ComesBack, WriteComesBack, ReplyComesBack, Ends, SameCall, outcome_by, LiesWithin, by_stream};
+ghost use Rattle.nr_reduce.specs.Items.{restored_payload};
+ghost use Rattle.nr_requester.specs.Judged.{ComesBack, WriteComesBack, ReplyComesBack, Ends, by_stream, payload_by, write_bytes};
 
 use crate::outstanding::OutstandingCall;
 use nr_header::{Chunk, RdmaSegment};
 use nr_link::constants::{REASON_CHUNKS, REASON_HEAD, REASON_XID};
-use nr_reduce::{
-    Item, Of, PayloadBuffer, ReplyParts, rebuild_item_into, reply_item_of, reply_parts,
-};
+use nr_reduce::{Item, Of, ReplyParts, reply_item_of, reply_parts};
 use nr_regions::{Regions, Registration};
 use nr_rpc::ReplyHead;
 
-/// What a message brings for its call: nothing, if the call's memory was revoked; a reply, whose payload is the first bytes of the
-/// call's room; or an error message (RFC 8166 section 4.5).
+/// Where the stream of a reply stands.
+#[derive(Clone, Copy)]
+pub enum StreamPlace {
+    /// In the message, from this offset on.
+    Message { at: usize },
+    /// It is the first bytes of the region of the reply chunk, this many.
+    Region { len: usize },
+}
+
+/// What a message brings for its call: nothing, if the call's memory was revoked; a reply; or an error message (RFC 8166 section 4.5).
 #[derive(Clone, Copy)]
 pub enum Found {
     /// The call's memory was revoked: nothing is handed over.
     Nothing,
-    /// A reply: its payload is the first `len` bytes of the call's room.
-    Reply { len: usize },
+    /// A reply: its payload is the stream, with the item whose bytes are the first of the region of the write chunk, if any moved.
+    Reply {
+        stream: StreamPlace,
+        item: Option<Item>,
+    },
     /// The error message ERR_CHUNK (RFC 8166 sections 4.5.2, 4.5.3).
     Chunk,
     /// The error message ERR_VERS, with the versions supported (RFC 8166 section 4.5.1).
@@ -124,25 +134,17 @@ fn xid_fault(xid: u32, head: &ReplyHead) -> Option<u32>
     }
 }
 
-/// What a reply brings if nothing moved beside its stream, which is then its payload; or why it ends the link.
-fn plain_found(xid: u32, room: &mut PayloadBuffer, stream: &[u8]) -> Result<Found, u32>
-    requires room { length stream.now ≤ room.old.len }
-    ensures ok { IfOk result (λ f. reply_by_payload xid (Some stream.now) ≡ GivesOutcome xid (outcome_by f room.new.bytes)) }
-    ensures within { IfOk result (λ f. LiesWithin f room.new.bytes) }
+/// The item of a reply if nothing moved beside its stream, which is then its payload: none; or why it ends the link.
+fn plain_item(xid: u32, stream: &[u8]) -> Result<Option<Item>, u32>
+    ensures ok { IfOk result (λ item. (item ≡ None) × (reply_by_payload xid (Some stream.now) ≡ GivesOutcome xid (Some (outcomes.Reply stream.now)))) }
     ensures err { IfErr result (λ reason. Ends (reply_by_payload xid (Some stream.now)) reason) }
-    ensures len { room.new.len ≡ room.old.len }
-    ensures bytes { length room.new.bytes ≤ room.new.len }
 {
-    let _len = room.len();
     let Some(parts) = reply_parts(stream) else {
         return Err(REASON_HEAD);
     };
     match xid_fault(xid, &parts.head) {
         Some(reason) => Err(reason),
-        None => {
-            room.put(0, stream);
-            Ok(Found::Reply { len: stream.len() })
-        }
+        None => Ok(None),
     }
 }
 
@@ -174,59 +176,23 @@ fn head_and_item(of: &Of, stream: &[u8]) -> Option<(ReplyHead, Item)>
     }
 }
 
-/// What a reply brings if these bytes moved beside its stream; or why it ends the link.
-fn reduced_found(
-    xid: u32,
-    room: &mut PayloadBuffer,
-    of: &Of,
-    stream: &[u8],
-    moved: &[u8],
-) -> Result<Found, u32>
-    requires reply { (prog : ℕ) × ((vers : ℕ) × ((proc : ℕ) × (of.now ≡ OfReply prog vers proc))) }
-    requires room { length stream.now + length moved.now + 3 ≤ room.old.len }
-    requires few { room.old.len < 2 ^ 32 }
-    ensures ok { IfOk result (λ f. reply_by_payload xid (whole of.now stream.now (Some moved.now)) ≡ GivesOutcome xid (outcome_by f room.new.bytes)) }
-    ensures within { IfOk result (λ f. LiesWithin f room.new.bytes) }
+/// The item of a reply if these bytes moved beside its stream; or why it ends the link. They are as many as the item has.
+fn moved_item(xid: u32, of: &Of, stream: &[u8], moved: &[u8]) -> Result<Option<Item>, u32>
+    requires { (prog : ℕ) × ((vers : ℕ) × ((proc : ℕ) × (of.now ≡ OfReply prog vers proc))) }
+    ensures ok { IfOk result (λ item. IfSome item (λ i. (i.pos ≤ length stream.now) × ((i.len ≡ length moved.now) × (reply_by_payload xid (whole of.now stream.now (Some moved.now)) ≡ GivesOutcome xid (Some (outcomes.Reply (restored_payload i stream.now moved.now))))))) }
+    ensures some { IfOk result (λ item. is_some item ≡ true) }
     ensures err { IfErr result (λ reason. Ends (reply_by_payload xid (whole of.now stream.now (Some moved.now))) reason) }
-    ensures len { room.new.len ≡ room.old.len }
-    ensures bytes { length room.new.bytes ≤ room.new.len }
 {
-    let _old = room.len();
     let Some((head, item)) = head_and_item(of, stream) else {
         return Err(REASON_CHUNKS);
     };
-    let rebuilt = rebuild_item_into(room, of, Some(item), stream, item.pos as u32, moved);
-    let _new = room.len();
-    let Ok(len) = rebuilt else {
+    if moved.len() != item.len as usize {
         return Err(REASON_CHUNKS);
-    };
+    }
     match xid_fault(xid, &head) {
         Some(reason) => Err(reason),
-        None => Ok(Found::Reply { len }),
+        None => Ok(Some(item)),
     }
-}
-
-/// What a reply with this stream, and what moved beside it, brings; or why it ends the link.
-fn payload_found(
-    xid: u32,
-    room: &mut PayloadBuffer,
-    of: &Of,
-    stream: &[u8],
-    moved: &[u8],
-) -> Result<Found, u32>
-    requires reply { (prog : ℕ) × ((vers : ℕ) × ((proc : ℕ) × (of.now ≡ OfReply prog vers proc))) }
-    requires room { length stream.now + length moved.now + 3 ≤ room.old.len }
-    requires few { room.old.len < 2 ^ 32 }
-    ensures ok { IfOk result (λ f. reply_by_payload xid (whole of.now stream.now (some_bytes moved.now)) ≡ GivesOutcome xid (outcome_by f room.new.bytes)) }
-    ensures within { IfOk result (λ f. LiesWithin f room.new.bytes) }
-    ensures err { IfErr result (λ reason. Ends (reply_by_payload xid (whole of.now stream.now (some_bytes moved.now))) reason) }
-    ensures len { room.new.len ≡ room.old.len }
-    ensures bytes { length room.new.bytes ≤ room.new.len }
-{
-    if moved.is_empty() {
-        return plain_found(xid, room, stream);
-    }
-    reduced_found(xid, room, of, stream, moved)
 }
 
 /// The item that a reply to a call has; `None` if and only if the call's memory was revoked.
@@ -243,23 +209,23 @@ pub fn of_call(call: &OutstandingCall) -> Option<Of>
     }
 }
 
-/// What a reply with this stream and this write list brings for its call, or why it ends the link. Takes no memory.
-pub fn reply_found(
+/// The item of a reply with this stream and this write list whose bytes moved, if any did; or why it ends the link of its call.
+pub fn reply_item(
     regions: &Regions,
-    call: &mut OutstandingCall,
+    call: &OutstandingCall,
     of: &Of,
     stream: &[u8],
     written: &[Chunk],
-) -> Result<Found, u32>
-    requires own { (c : Call) × ((call.old.call ≡ Some c) × (of.now ≡ OfReply c.prog c.vers c.proc)) }
-    requires written { WriteComesBack regions.now.memory call.old.claims.write written.now }
-    requires room { length stream.now + (claim_len call.old.claims.write + 3) ≤ call.old.room.len }
-    requires few { call.old.room.len < 2 ^ 32 }
-    ensures ok { IfOk result (λ f. (c : Call) → call.old.call ≡ Some c → by_stream call.old.xid c stream.now (reply_moved (bytes_under regions.now.memory) written.now) ≡ GivesOutcome call.old.xid (outcome_by f call.new.room.bytes)) }
-    ensures within { IfOk result (λ f. LiesWithin f call.new.room.bytes) }
-    ensures err { IfErr result (λ reason. (c : Call) → call.old.call ≡ Some c → Ends (by_stream call.old.xid c stream.now (reply_moved (bytes_under regions.now.memory) written.now)) reason) }
-    ensures same { SameCall call.old call.new }
+) -> Result<Option<Item>, u32>
+    requires own { (c : Call) × ((call.now.call ≡ Some c) × (of.now ≡ OfReply c.prog c.vers c.proc)) }
+    requires written { WriteComesBack regions.now.memory call.now.claims.write written.now }
+    ensures ok { IfOk result (λ item. (c : Call) → call.now.call ≡ Some c → by_stream call.now.xid c stream.now (reply_moved (bytes_under regions.now.memory) written.now) ≡ GivesOutcome call.now.xid (Some (outcomes.Reply (payload_by item stream.now (write_bytes regions.now.memory call.now.claims))))) }
+    ensures within { IfOk result (λ item. IfSome item (λ i. (i.pos ≤ length stream.now) × (i.len ≤ claim_len call.now.claims.write))) }
+    ensures err { IfErr result (λ reason. (c : Call) → call.now.call ≡ Some c → Ends (by_stream call.now.xid c stream.now (reply_moved (bytes_under regions.now.memory) written.now)) reason) }
 {
     let moved = moved(regions, &call.claims.write, written);
-    payload_found(call.xid, &mut call.room, of, stream, moved)
+    if moved.is_empty() {
+        return plain_item(call.xid, stream);
+    }
+    moved_item(call.xid, of, stream, moved)
 }

@@ -118,7 +118,7 @@ impl Requester {
             };
         }
         match take_answer(&mut self.answered, xid) {
-            Some(answer) => answer.into_call(),
+            Some(answer) => answer.into_buffers(),
             None => unreachable!(),
         }
     }

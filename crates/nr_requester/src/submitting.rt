@@ -14,9 +14,10 @@ ghost use Rattle.nr_reduce.specs.SubmitAnswer.{unless_far_by};
 ghost use Rattle.nr_reduce.specs.declared.mark.Mark.TheVariants as marks;
 ghost use Rattle.nr_requester.specs.AfterCalls.{with_submitted, after_submit};
 ghost use Rattle.nr_requester.specs.Answers.{answer_of, plan_under, WasSent};
-ghost use Rattle.nr_requester.specs.Sending.{IsPlan, HasNumbers, has_credit, least_stored, unless_refused, answer_for, offered_of, xid_word, target_under, head_under, call_plan};
+ghost use Rattle.nr_requester.specs.Sending.{IsPlan, HasNumbers, has_credit, least_stored, unless_refused, answer_for, offered_of, xid_word, target_under, head_under, call_plan, room_for};
 ghost use Rattle.nr_requester.specs.HeldClaims.{SentHeld, IsOfferOf};
-ghost use Rattle.nr_requester.specs.HeldBytes.{call_bytes, call_max, receive_max, NothingOutside};
+ghost use Rattle.nr_requester.specs.HeldBytes.{call_bytes, call_max, receive_max};
+ghost use Rattle.nr_requester.specs.Parts.{PartAdded};
 ghost use Rattle.nr_requester.specs.Standing.{StandsOn};
 ghost use Rattle.nr_requester.specs.ReopenedLinks.{KeepsOn};
 ghost use Rattle.nr_requester.specs.Fed.{fed_bytes};
@@ -31,7 +32,10 @@ use crate::outstanding::{OutstandingCall, given_by};
 use crate::requester::{Requester, marks_if};
 use crate::ticket::Ticket;
 use nr_endpoint::{Claims, Endpoint};
-use nr_reduce::{Call, Form, Outline, PayloadBuffer, Refused, TooLarge, outline_of, written_parts};
+use nr_reduce::{
+    Call, Form, Outline, PayloadBuffer, Refused, TooLarge, expected_item_at, outline_of,
+    written_parts,
+};
 use nr_rpc::{CallTarget, write_call_head};
 use nr_xdr::{Memory, Octets};
 use std::alloc::Global;
@@ -67,8 +71,10 @@ fn offer_plan(
     xid: u32,
     credit: u32,
     plan: PlannedCall<'_>,
+    receive_length: u32,
     lists: &OfferedLists,
 ) -> Result<Claims, Memory>
+    requires receive { receive_length ≤ receive_max }
     requires live { endpoint.old.link.state.ended ≡ None }
     requires planned { IsPlan (call_plan plan) }
     requires stags { endpoint.old.link.state.memory.next + regions_needed (call_plan plan) ≤ 2 ^ 32 }
@@ -77,12 +83,12 @@ fn offer_plan(
     ensures claims { IfOk result (λ claims. claims ≡ claims_of endpoint.old.link.state.memory (offered_of (call_plan plan.entry))) }
     ensures held { IfOk result (λ claims. SentHeld endpoint.old.link.state.memory endpoint.new.link.state.memory claims) }
     ensures staging { endpoint.new.staging ≡ endpoint.old.staging }
-    ensures outside { OnOk result (NothingOutside endpoint.old → NothingOutside endpoint.new) }
+    ensures outside { OnOk result (PartAdded receive_length (call_plan plan.entry) plan.entry.item_at endpoint.old endpoint.new) }
     ensures outside_err { OnErr result (endpoint.new.outside ≡ endpoint.old.outside) }
     ensures err { OnErr result (endpoint.new.link ≡ endpoint.old.link) }
 {
     let (front, stream) = message_of(alloc, xid, credit, plan, lists.as_slices())?;
-    let offered = offered_of(alloc, plan)?;
+    let offered = offered_of(alloc, plan, receive_length)?;
     match endpoint.offer_parts(front.as_slice(), stream, offered) {
         Ok(claims) => Ok(claims),
         Err(offered) => {
@@ -99,7 +105,9 @@ fn send_plan(
     xid: u32,
     credit: u32,
     plan: PlannedCall<'_>,
+    receive_length: u32,
 ) -> Result<Sent, Memory>
+    requires receive { receive_length ≤ receive_max }
     requires live { endpoint.old.link.state.ended ≡ None }
     requires planned { IsPlan (call_plan plan) }
     requires stags { endpoint.old.link.state.memory.next + regions_needed (call_plan plan) ≤ 2 ^ 32 }
@@ -109,13 +117,21 @@ fn send_plan(
     ensures held { IfOk result (λ s. SentHeld endpoint.old.link.state.memory endpoint.new.link.state.memory s.claims) }
     ensures offer { IfOk result (λ s. IsOfferOf s.claims s.lists) }
     ensures staging { endpoint.new.staging ≡ endpoint.old.staging }
-    ensures outside { OnOk result (NothingOutside endpoint.old → NothingOutside endpoint.new) }
+    ensures outside { OnOk result (PartAdded receive_length (call_plan plan.entry) plan.entry.item_at endpoint.old endpoint.new) }
     ensures outside_err { OnErr result (endpoint.new.outside ≡ endpoint.old.outside) }
     ensures err { OnErr result (endpoint.new.link ≡ endpoint.old.link) }
 {
     let stag = NUMBERS_END - endpoint.regions().stags_left();
     let lists = lists_of(alloc, stag, plan)?;
-    match offer_plan(alloc, endpoint, xid, credit, plan, &lists) {
+    match offer_plan(
+        alloc,
+        endpoint,
+        xid,
+        credit,
+        plan,
+        receive_length,
+        &lists,
+    ) {
         Ok(claims) => Ok(Sent { lists, claims }),
         Err(memory) => {
             drop(lists);
@@ -142,15 +158,15 @@ fn send_with_room(
     ensures claims { IfOk result (λ s. s.sent.claims ≡ claims_of endpoint.old.link.state.memory (offered_of (call_plan plan.entry))) }
     ensures held { IfOk result (λ s. SentHeld endpoint.old.link.state.memory endpoint.new.link.state.memory s.sent.claims) }
     ensures offer { IfOk result (λ s. IsOfferOf s.sent.claims s.sent.lists) }
-    ensures room { IfOk result (λ s. (s.room.len ≡ receive_length + (total (call_plan plan.entry).write + (total (call_plan plan.entry).reply + 3))) × (s.room.len < 2 ^ 32)) }
+    ensures room { IfOk result (λ s. (s.room.len ≡ room_for receive_length (call_plan plan.entry)) × (s.room.len < 2 ^ 32)) }
     ensures empty { IfOk result (λ s. s.room.bytes ≡ []) }
     ensures staging { endpoint.new.staging ≡ endpoint.old.staging }
-    ensures outside { OnOk result (NothingOutside endpoint.old → NothingOutside endpoint.new) }
+    ensures outside { OnOk result (PartAdded receive_length (call_plan plan.entry) plan.entry.item_at endpoint.old endpoint.new) }
     ensures outside_err { OnErr result (endpoint.new.outside ≡ endpoint.old.outside) }
     ensures err { OnErr result (endpoint.new.link ≡ endpoint.old.link) }
 {
     let room = reply_room(alloc, plan, receive_length)?;
-    match send_plan(alloc, endpoint, xid, credit, plan) {
+    match send_plan(alloc, endpoint, xid, credit, plan, receive_length) {
         Ok(sent) => Ok(SentCall { sent, room }),
         Err(memory) => {
             drop(room);
@@ -267,6 +283,7 @@ impl Requester {
                 head,
                 args: call.args.as_slice(),
                 outline,
+                item_at: expected_item_at(call.prog, call.vers, call.proc),
             },
             self.receive_length,
         ) {
@@ -340,6 +357,7 @@ impl Requester {
             head,
             args: call.args.as_slice(),
             outline,
+            item_at: 0,
         });
         if let Some(refused) = self.refusal(needed) {
             return Err((call, refused));

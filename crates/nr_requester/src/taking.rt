@@ -11,24 +11,13 @@ ghost use Rattle.nr_requester.specs.ReopenedLinks.{KeepsOn, StopsOn};
 ghost use Rattle.nr_requester.specs.Takes.{IsTaken, TakeCloses, TakeKeeps, TakeStands, TakeStops};
 ghost use Rattle.nr_requester.specs.Views.{forgot};
 
-use crate::answer::{AnsweredCall, Buffers};
+use crate::answer::{AnsweredCall, Buffers, Done};
 use crate::outstanding::OutstandingCall;
 use crate::requester::{Requester, marks_if};
 use crate::revoking::place_of;
 use crate::ticket::Ticket;
 use nr_link::End;
-use nr_reduce::{Call, Outcome};
-
-/// A call that was answered: the call, the buffers of its regions, and what it was answered by.
-#[derive(Drop)]
-pub struct Done {
-    /// The call.
-    pub call: Call,
-    /// The buffers of its regions, as they were when the answer came.
-    pub buffers: Buffers,
-    /// What it was answered by.
-    pub outcome: Outcome,
-}
+use nr_reduce::Call;
 
 /// What a ticket is answered.
 #[derive(Drop)]
@@ -51,7 +40,7 @@ pub fn answer_place(answers: &[AnsweredCall], xid: u32) -> Option<usize>
     ensures none { result ≡ None → (k : ℕ) (d : AnsweredCall) → k < length answers.now → (get_or answers.now k d).xid ≢ xid }
 {
     'answers: for i in 0..answers.len() {
-        if answers[i].xid == xid {
+        if answers[i].xid() == xid {
             return Some(i);
         }
     }
@@ -120,18 +109,8 @@ impl Requester {
         let Some(at) = answer_place(self.answered.as_slice(), xid) else {
             unreachable!();
         };
-        let AnsweredCall {
-            call,
-            buffers,
-            outcome,
-            ..
-        } = self.answered.remove(at);
         self.marks = marks_if(true, self.marks);
-        Done {
-            call,
-            buffers,
-            outcome,
-        }
+        Done::new(self.answered.remove(at))
     }
 
     /// Gives up the answer to a call. Its regions stay until its reply or the end of the link; the reply is then received and dropped. An

@@ -12,7 +12,7 @@ use Rattle.nr_reduce.specs.EndRules.{EndState}
 use Rattle.nr_reduce.specs.History.{bytes_received, bytes_sent}
 use Rattle.nr_reduce.specs.Run.{HasWritten, client, grants_of, placed_bytes}
 use Rattle.nr_reduce.proofs.OwnStags.{client_known}
-use Rattle.nr_requester.specs.declared.answer.AnsweredCall.{AnsweredCall}
+use Rattle.nr_requester.specs.AnsweredCalls.{AnsweredCall}
 use Rattle.nr_requester.specs.KeptAnswers.{buffers_in, regions_of}
 use Rattle.nr_requester.specs.OpenCalls.{found_answer}
 use Rattle.nr_requester.specs.RequesterState.{RequesterSide, queue_of}

@@ -3,7 +3,7 @@ use Rattle.std.proofs.Common.{◌≡◌, ℕ, List, [], ◌∷◌, ◌++◌, ref
 use Rattle.nr_turnstile.specs.declared.turnstile.Pass.{Pass}
 use Rattle.nr_turnstile.specs.Rule.{Begins, IsOpen, Lies}
 use Rattle.nr_turnstile.specs.Passes.{seen_by, mine_of}
-use Rattle.nr_requester.specs.declared.taking.Done.{Done}
+use Rattle.nr_requester.specs.AnsweredCalls.{Done}
 use Rattle.nr_requester.specs.declared.taking.Take.{Take}
 use Rattle.nr_requester.specs.declared.taking.Take.TheVariants as takes
 use Rattle.nr_shared.specs.declared.call_end.CallEnd.{CallEnd}

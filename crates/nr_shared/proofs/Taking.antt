@@ -12,7 +12,7 @@ use Rattle.nr_reduce.specs.Asked.{IsAwaited}
 use Rattle.nr_reduce.specs.History.{CompletedCall, completed_calls}
 use Rattle.nr_reduce.specs.OutcomesDue.{is_completed}
 use Rattle.nr_reduce.specs.Run.{client}
-use Rattle.nr_requester.specs.declared.answer.AnsweredCall.{AnsweredCall}
+use Rattle.nr_requester.specs.AnsweredCalls.{AnsweredCall}
 use Rattle.nr_requester.specs.declared.answer.Buffers.{Buffers}
 use Rattle.nr_requester.specs.AfterCalls.{after_revoke}
 use Rattle.nr_requester.specs.Buffers.{bytes_of_buffers}

@@ -7,7 +7,7 @@ use Rattle.nr_reduce.specs.declared.call.Form.{Form}
 use Rattle.nr_link.specs.declared.end.End.{End}
 use Rattle.nr_requester.specs.Buffers.{bytes_of_buffers}
 use Rattle.nr_requester.specs.declared.answer.Buffers.{Buffers}
-use Rattle.nr_requester.specs.declared.taking.Done.{Done}
+use Rattle.nr_requester.specs.AnsweredCalls.{Done}
 use Rattle.nr_requester.specs.declared.taking.Take.{Take}
 use Rattle.nr_requester.specs.declared.taking.Take.TheVariants as takes
 use Rattle.nr_turnstile.specs.declared.turnstile.Pass.{Pass}

@@ -14,7 +14,7 @@ use Rattle.nr_reduce.specs.Run.{client}
 use Rattle.nr_reduce.proofs.Standing.{itself}
 use Rattle.nr_reduce.proofs.Steps.{client_one}
 use Rattle.nr_reduce.proofs.Waiting.{accepted_one}
-use Rattle.nr_requester.specs.declared.answer.AnsweredCall.{AnsweredCall}
+use Rattle.nr_requester.specs.AnsweredCalls.{AnsweredCall}
 use Rattle.nr_requester.specs.RequesterState.{RequesterState, RequesterSide}
 use Rattle.nr_requester.specs.KeptAnswers.{is_due, completed_of}
 use Rattle.nr_requester.specs.OpenCalls.{found_answer}

@@ -8,7 +8,7 @@ use Rattle.nr_reduce.specs.declared.mark.Mark.{Mark}
 use Rattle.nr_reduce.specs.History.{CompletedCall, AcceptedCall}
 use Rattle.nr_reduce.specs.OutcomesDue.{outcomes_due}
 use Rattle.nr_reduce.proofs.Standing.{itself}
-use Rattle.nr_requester.specs.declared.answer.AnsweredCall.{AnsweredCall}
+use Rattle.nr_requester.specs.AnsweredCalls.{AnsweredCall}
 use Rattle.nr_requester.specs.RequesterState.{RequesterState, RequesterSide}
 use Rattle.nr_requester.specs.KeptAnswers.{completed_of}
 use Rattle.nr_requester.specs.AfterCalls.{after_forget}

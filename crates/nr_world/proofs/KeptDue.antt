@@ -33,7 +33,7 @@ use Rattle.nr_laws.proofs.ReopenedLinks.{no_call_is_left_over}
 use Rattle.nr_laws.proofs.RisingCalls.{AreBelow, IsRising, RisesAt, call_under, rises_of, rising_from, xids_out}
 use Rattle.nr_requester.specs.KeptAnswers.{completed_of, is_due}
 use Rattle.nr_requester.specs.RequesterState.{RequesterSide}
-use Rattle.nr_requester.specs.declared.answer.AnsweredCall.{AnsweredCall}
+use Rattle.nr_requester.specs.AnsweredCalls.{AnsweredCall}
 use Rattle.nr_requester.proofs.DueAnswers.{Among, to_among}
 use Rattle.nr_requester.proofs.OpenTickets.{HasAccepted}
 use Rattle.nr_requester.proofs.OutcomesAccepted.{outcomes_accepted}

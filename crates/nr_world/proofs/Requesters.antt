@@ -12,7 +12,7 @@ use Rattle.nr_reduce.specs.Events.{events_at}
 use Rattle.nr_reduce.specs.History.{CompletedCall, fed_at, written_at}
 use Rattle.nr_reduce.specs.Run.{client}
 use Rattle.nr_reduce.specs.SubmitAnswer.{calls_to_resend, submit_answer}
-use Rattle.nr_requester.specs.declared.answer.AnsweredCall.{AnsweredCall}
+use Rattle.nr_requester.specs.AnsweredCalls.{AnsweredCall}
 use Rattle.nr_requester.specs.Answers.{answer_of}
 use Rattle.nr_requester.specs.Buffers.{bytes_of_buffers}
 use Rattle.nr_requester.specs.KeptAnswers.{completed_of, is_due}

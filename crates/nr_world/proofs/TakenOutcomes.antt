@@ -1,8 +1,8 @@
 -- What a ticket is answered whose outcome has come.
 use Rattle.std.specs.Prelude.{is_some}
 use Rattle.std.proofs.Common.{◌≡◌, ℕ, true, false, Option, None, ap, sym, ◌∙◌}
-use Rattle.nr_requester.specs.declared.answer.AnsweredCall.{AnsweredCall}
-use Rattle.nr_requester.specs.declared.taking.Done.{Done}
+use Rattle.nr_requester.specs.AnsweredCalls.{AnsweredCall}
+use Rattle.nr_requester.specs.AnsweredCalls.{Done}
 use Rattle.nr_requester.specs.RequesterState.{RequesterSide}
 use Rattle.nr_requester.specs.OpenCalls.{found_answer}
 use Rattle.nr_requester.specs.Takes.{IsTaken, TakeKeeps}

@@ -13,7 +13,7 @@ use crate::draining::add_mark;
 use crate::link::DrillLink;
 use nr_marks::MarkLog;
 use nr_reduce::{Mark, Outcome};
-use nr_requester::{Done, Requester, Take, Ticket};
+use nr_requester::{Requester, Take, Ticket};
 use nr_xdr::Memory;
 
 /// Takes the outcome of a call, which has come. The call and its buffers are dropped.
@@ -25,19 +25,11 @@ fn take_outcome(client: &mut Requester, ticket: Ticket) -> Outcome
     ensures tickets { ClosesTicket ticket client.old.state client.new.state }
     ensures fed { fed_bytes client.new ≡ fed_bytes client.old }
 {
-    let done = match client.try_take(ticket) {
-        Take::Done(done) => done,
+    match client.try_take(ticket) {
+        Take::Done(done) => done.into_outcome(),
         Take::NotYet(_) => unreachable!(),
         Take::Failed { .. } => unreachable!(),
-    };
-    let Done {
-        call,
-        buffers,
-        outcome,
-    } = done;
-    drop(call);
-    drop(buffers);
-    outcome
+    }
 }
 
 impl DrillLink {

@@ -1,7 +1,7 @@
 use Rattle.std.proofs.Common.{◌≡◌, ◌≢◌, ℕ, ◌<◌, ◌≤◌, true, false, List, length, get_or, Option, None, Some, is_some, refl, sym, ap, subst, ◌∙◌, arith}
 use Rattle.nr_endpoint.specs.LinkState.{LinkSide}
 use Rattle.nr_reduce.specs.declared.call.Call.{Call}
-use Rattle.nr_requester.specs.declared.answer.AnsweredCall.{AnsweredCall}
+use Rattle.nr_requester.specs.AnsweredCalls.{AnsweredCall}
 use Rattle.nr_requester.specs.declared.outstanding.OutstandingCall.{OutstandingCall}
 use Rattle.nr_requester.specs.RequesterState.{RequesterSide}
 use Rattle.nr_requester.specs.AfterCalls.{after_revoke}

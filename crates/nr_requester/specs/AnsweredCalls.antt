@@ -1,0 +1,44 @@
+-- A call that was answered, as contracts see it: the same wherever the bytes of its answer are kept.
+use Rattle.std.specs.Prelude.{ℕ, List, Option, None, Some}
+use Rattle.nr_reduce.specs.declared.call.Call.{Call}
+use Rattle.nr_reduce.specs.declared.call.Outcome.{Outcome}
+use Rattle.nr_reduce.specs.declared.call.Outcome.TheVariants as outcomes
+use Rattle.nr_requester.specs.declared.answer.Buffers.{Buffers}
+use Rattle.nr_requester.specs.declared.answer.AnswerBytes.{AnswerBytes}
+use Rattle.nr_requester.specs.declared.answer.AnswerBytes.TheVariants as kept
+
+-- a call whose outcome came and wasn't handed over yet: the xid under which it was accepted, the call, the buffers of its regions, and its outcome
+pub record AnsweredCall : Type 0 where
+  pub xid : ℕ
+  pub call : Call
+  pub buffers : Buffers
+  pub outcome : Outcome
+
+-- a call that was answered: the call, the buffers of its regions, as they were when the answer came, and what it was answered by
+pub record Done : Type 0 where
+  pub call : Call
+  pub buffers : Buffers
+  pub outcome : Outcome
+
+-- where the bytes of an answer are kept
+abbrev pub buffers_in : AnswerBytes → Buffers
+buffers_in (kept.Apart buffers outcome) = buffers
+buffers_in (kept.InWrite read placed reply) = record { read = read; write = Some placed.region; reply = reply }
+buffers_in (kept.InReply read write placed) = record { read = read; write = write; reply = Some placed.region }
+
+abbrev pub outcome_in : AnswerBytes → Outcome
+outcome_in (kept.Apart buffers outcome) = outcome
+outcome_in (kept.InWrite read placed reply) = outcomes.Reply placed.payload
+outcome_in (kept.InReply read write placed) = outcomes.Reply placed.payload
+
+abbrev pub answered_view : ℕ → Call → AnswerBytes → AnsweredCall
+answered_view xid call bytes = record { xid = xid; call = call; buffers = buffers_in bytes; outcome = outcome_in bytes }
+
+abbrev pub done_view : AnsweredCall → Done
+done_view a = record { call = a.call; buffers = a.buffers; outcome = a.outcome }
+
+-- the payload of a reply
+abbrev pub payload_in : Outcome → Option (List ℕ)
+payload_in (outcomes.Reply payload) = Some payload
+payload_in outcomes.Chunk = None
+payload_in (outcomes.Version low high) = None
