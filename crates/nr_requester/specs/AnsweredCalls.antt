@@ -1,11 +1,13 @@
 -- A call that was answered, as contracts see it: the same wherever the bytes of its answer are kept.
-use Rattle.std.specs.Prelude.{ℕ, List, Option, None, Some}
+use Rattle.std.specs.Prelude.{ℕ, ◌≤◌, List, [], length, take, drop, Option, None, Some}
 use Rattle.nr_reduce.specs.declared.call.Call.{Call}
 use Rattle.nr_reduce.specs.declared.call.Outcome.{Outcome}
 use Rattle.nr_reduce.specs.declared.call.Outcome.TheVariants as outcomes
 use Rattle.nr_requester.specs.declared.answer.Buffers.{Buffers}
 use Rattle.nr_requester.specs.declared.answer.AnswerBytes.{AnswerBytes}
 use Rattle.nr_requester.specs.declared.answer.AnswerBytes.TheVariants as kept
+use Rattle.nr_requester.specs.declared.replies.StreamPlace.{StreamPlace}
+use Rattle.nr_requester.specs.declared.replies.StreamPlace.TheVariants as places
 
 -- a call whose outcome came and wasn't handed over yet: the xid under which it was accepted, the call, the buffers of its regions, and its outcome
 pub record AnsweredCall : Type 0 where
@@ -42,3 +44,17 @@ abbrev pub payload_in : Outcome → Option (List ℕ)
 payload_in (outcomes.Reply payload) = Some payload
 payload_in outcomes.Chunk = None
 payload_in (outcomes.Version low high) = None
+
+-- ---- For the code
+
+-- the stream of a reply, in its message or in the buffer of the reply chunk
+abbrev pub stream_at : StreamPlace → (message : List ℕ) → Option (List ℕ) → List ℕ
+stream_at (places.Message at) message reply = drop at message
+stream_at (places.Region len) message None = []
+stream_at (places.Region len) message (Some bytes) = take len bytes
+
+-- it is there
+abbrev pub StreamIn : StreamPlace → (message_len : ℕ) → Option (List ℕ) → Type 0
+StreamIn (places.Message at) message_len reply = at ≤ message_len
+StreamIn (places.Region len) message_len None = ⊥
+StreamIn (places.Region len) message_len (Some bytes) = len ≤ length bytes

@@ -1,8 +1,10 @@
 -- A call on its way out: its chunks, and the buffers that it offers.
-use Rattle.std.specs.Prelude.{◌≡◌, ℕ, ◌+◌, ◌-◌, ◌^◌, ◌<◌, ◌≤◌, ◌==◌, ◌&&◌, nat_lt, if◌then◌else◌, Ok, Bool, true, false, List, [], ◌∷◌, ◌++◌, length, replicate, Option, None, Some, IfSome}
+use Rattle.std.specs.Prelude.{◌≡◌, ℕ, ◌+◌, ◌-◌, ◌^◌, ◌<◌, ◌≤◌, ◌==◌, ◌&&◌, nat_lt, if◌then◌else◌, Ok, Bool, true, false, List, [], ◌∷◌, ◌++◌, length, replicate, Option, None, Some, IfSome, max, option_map}
 use Rattle.nr_rpc.specs.declared.head.CallTarget.{CallTarget}
 use Rattle.nr_rpc.specs.Call.{call_head, call_of_target}
+use Rattle.nr_regions.specs.RegisteredMemory.{nothing_outside}
 use Rattle.nr_endpoint.specs.declared.offering.Offered.{Offered}
+use Rattle.nr_endpoint.specs.Offering.{part_bytes}
 use Rattle.nr_reduce.specs.declared.outline.Plan.{Plan}
 use Rattle.nr_reduce.specs.Plans.{has_segment, total, plan_of}
 use Rattle.nr_reduce.specs.Limits.{numbers_end}

@@ -8,6 +8,7 @@ use Rattle.nr_reduce.specs.KeptCalls.{own_of}
 use Rattle.nr_requester.specs.declared.outstanding.OutstandingCall.{OutstandingCall}
 use Rattle.nr_requester.specs.declared.outstanding.GivenStags.{GivenStags}
 use Rattle.nr_requester.specs.AnsweredCalls.{AnsweredCall}
+use Rattle.nr_requester.specs.Parts.{HasReplyRoom}
 use Rattle.nr_requester.specs.RequesterState.{StoredCall, RequesterFeeding, RequesterSide}
 use Rattle.nr_requester.specs.AfterCalls.{no_claims}
 use Rattle.nr_requester.specs.HeldBytes.{xid_of, AreRisingBy}
@@ -41,9 +42,9 @@ abbrev pub claim_len : Option Claim → ℕ
 claim_len None = 0
 claim_len (Some claim) = claim.len
 
--- the room in which the payload of the largest reply is put together, in a message of this length and through a call's chunks
+-- the room of a call is enough, in a message of this length
 abbrev pub HasRoom : (len : ℕ) → OutstandingCall → Type 0
-HasRoom len c = (len + (claim_len c.claims.write + (claim_len c.claims.reply + 3)) ≤ c.room.len) × (c.room.len < 2 ^ 32)
+HasRoom len c = HasReplyRoom len c.claims c.room.len × (c.room.len < 2 ^ 32)
 
 -- the calls come in the order of their xids, all of which are below this
 abbrev pub AreRising : List OutstandingCall → ℕ → Type 0

@@ -49,6 +49,26 @@ pub enum AnswerBytes {
     },
 }
 
+fn buffer_len(buffer: &Option<Octets>) -> u128
+    ensures is { result ≡ buffer_len buffer.now }
+    ensures small { result ≤ 2 ^ 64 }
+{
+    match buffer {
+        Some(bytes) => bytes.len() as u128,
+        None => 0,
+    }
+}
+
+fn payload_len(outcome: &Outcome) -> u128
+    ensures { result ≡ outcome_bytes outcome.now }
+{
+    match outcome {
+        Outcome::Reply(payload) => payload.len() as u128,
+        Outcome::Chunk => 0,
+        Outcome::Version { .. } => 0,
+    }
+}
+
 impl AnswerBytes {
     /// The buffers. The outcome is dropped. Takes no memory.
     fn into_buffers(self) -> Buffers
@@ -85,6 +105,31 @@ impl AnswerBytes {
             AnswerBytes::Apart { outcome, .. } => outcome,
             AnswerBytes::InWrite { placed, .. } => Outcome::Reply(placed.into_payload()),
             AnswerBytes::InReply { placed, .. } => Outcome::Reply(placed.into_payload()),
+        }
+    }
+}
+
+impl AnswerBytes {
+    /// How many bytes are kept: those of the buffers, and of a payload that has a buffer of its own.
+    pub(crate) fn held(&self) -> u128
+    {
+        match self {
+            AnswerBytes::Apart { buffers, outcome } => {
+                buffer_len(&buffers.read)
+                    + buffer_len(&buffers.write)
+                    + buffer_len(&buffers.reply)
+                    + payload_len(outcome)
+            }
+            AnswerBytes::InWrite {
+                read,
+                placed,
+                reply,
+            } => buffer_len(read) + placed.held() + buffer_len(reply),
+            AnswerBytes::InReply {
+                read,
+                write,
+                placed,
+            } => buffer_len(read) + buffer_len(write) + placed.held(),
         }
     }
 }

@@ -1,6 +1,6 @@
 //! A requester takes the server's stream.
 
-ghost use Rattle.std.specs.Prelude.{◌≡◌, ◌≢◌, ℕ, ◌+◌, ◌*◌, ◌^◌, ◌<◌, ◌≤◌, ◌++◌, length, take, drop, get_or, remove, None, Some, Ok, Err, is_some, true, List, [], ◌∷◌, if◌then◌else◌, vec_len, vec_capacity};
+ghost use Rattle.std.specs.Prelude.{◌≡◌, ◌≢◌, ℕ, ◌+◌, ◌*◌, ◌^◌, ◌<◌, ◌≤◌, ◌++◌, length, take, drop, get_or, remove, None, Some, Ok, Err, is_some, true, List, [], ◌∷◌, if◌then◌else◌, MatchOption, vec_len, vec_capacity};
 ghost use Rattle.std.specs.Result.{result_err};
 ghost use Rattle.nr_wire.specs.declared.hello.Side.TheVariants.{Initiator};
 ghost use Rattle.nr_wire.specs.Feeding.{bytes_taken};
@@ -20,7 +20,11 @@ ghost use Rattle.nr_requester.specs.AfterCalls.{live_count};
 ghost use Rattle.nr_requester.specs.AfterPiece.{dead_memory, answered_as, after_fed};
 ghost use Rattle.nr_requester.specs.CountedMarks.{with_releases};
 ghost use Rattle.nr_requester.specs.Buffers.{with_memory};
+ghost use Rattle.nr_requester.specs.AnsweredCalls.{buffers_in, outcome_in};
+ghost use Rattle.nr_requester.specs.AfterPiece.{buffers_under};
 ghost use Rattle.nr_requester.specs.Judged.{outcome_by, LiesWithin};
+ghost use Rattle.nr_requester.specs.Parts.{HasPart, HasParts, HasReplyRoom, without_claims};
+ghost use Rattle.nr_reduce.specs.Largest.{expected_item_at};
 ghost use Rattle.nr_requester.specs.Fed.{answer_with, CallsSound, IsReady, StopsDead, TakesMessage, TakesEvent, IsStep, TakesFrames, RequesterRanOutAt, fed_bytes, taken_by, late_marks};
 ghost use Rattle.nr_requester.specs.HeldBytes.{NothingOutside, IsBounded};
 ghost use Rattle.nr_requester.specs.OpenCalls.{KeepsTickets};

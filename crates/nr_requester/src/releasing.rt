@@ -1,6 +1,6 @@
 //! The regions of a call are released.
 
-ghost use Rattle.std.specs.Prelude.{◌≡◌, ◌≤◌, IfSome};
+ghost use Rattle.std.specs.Prelude.{◌≡◌, ◌≤◌, [], ◌∷◌, length, Some, IfSome};
 ghost use Rattle.nr_regions.specs.RegisteredMemory.{IsHeld, AreHeldFrom};
 ghost use Rattle.nr_reduce.specs.KeptClient.{released_all};
 ghost use Rattle.nr_requester.specs.RequesterState.{stag_of, stags_of};
@@ -10,6 +10,14 @@ ghost use Rattle.nr_requester.specs.Buffers.{with_memory};
 ghost use Rattle.nr_requester.specs.AfterCalls.{live_count};
 ghost use Rattle.nr_requester.specs.AfterPiece.{buffer_under, buffers_under};
 ghost use Rattle.nr_requester.specs.CountedMarks.{with_releases};
+ghost use Rattle.nr_reduce.specs.KeptClient.{bytes_under};
+ghost use Rattle.nr_reduce.specs.declared.call.Outcome.TheVariants as outcomes;
+ghost use Rattle.nr_regions.specs.RegisteredMemory.{buffer_around};
+ghost use Rattle.nr_requester.specs.AnsweredCalls.{StreamIn, buffers_in, outcome_in, stream_at};
+ghost use Rattle.nr_requester.specs.Judged.{LiesWithin, outcome_by};
+ghost use Rattle.nr_requester.specs.Parts.{HasPart, HasReplyRoom, without_claims};
+ghost use Rattle.nr_requester.specs.declared.replies.Found.TheVariants as founds;
+ghost use Rattle.std.specs.FinMap.{get, remove};
 
 use crate::answer::{AnswerBytes, Buffers};
 use crate::replies::StreamPlace;
@@ -85,7 +93,7 @@ pub fn release_claims(endpoint: &mut Endpoint, claims: Claims) -> Buffers
 #[tactic(auto, unfolding(nr_endpoint::specs::Calls::after_call))]
 fn release_around(endpoint: &mut Endpoint, claim: Registration) -> Octets
     requires { IsHeld endpoint.old.link.state.memory claim }
-    ensures buffer { result ≡ buffer_around (outside_at (regions_of endpoint.old) claim.stag) (bytes_under endpoint.old.link.state.memory claim.stag) }
+    ensures buffer { result ≡ buffer_around (get endpoint.old.outside claim.stag) (bytes_under endpoint.old.link.state.memory claim.stag) }
     ensures link { endpoint.new.link ≡ with_memory (released_all endpoint.old.link.state.memory (claim.stag ∷ [])) endpoint.old.link }
     ensures staging { endpoint.new.staging ≡ endpoint.old.staging }
     ensures outside { endpoint.new.outside ≡ remove endpoint.old.outside claim.stag }
@@ -101,10 +109,10 @@ fn stream_answer(
     message: &[u8],
     stream: StreamPlace,
 ) -> AnswerBytes
-    requires lies { StreamIn stream (length message.now) buffers }
+    requires lies { StreamIn stream (length message.now) buffers.reply }
     requires room { length message.now ≤ room.len }
     ensures buffers { buffers_in result ≡ buffers }
-    ensures outcome { outcome_in result ≡ outcomes.Reply (stream_in stream message.now buffers) }
+    ensures outcome { outcome_in result ≡ outcomes.Reply (stream_at stream message.now buffers.reply) }
 {
     let mut room = room;
     match stream {
@@ -132,7 +140,7 @@ fn stream_answer(
 
 /// The stream of a reply, in its message or in the buffer of the reply chunk.
 fn stream_of<'a>(message: &'a [u8], reply: &'a Option<Octets>, stream: StreamPlace) -> &'a [u8]
-    requires { IfPlaced stream (length message.now) reply.now }
+    requires { StreamIn stream (length message.now) reply.now }
     ensures { result.now ≡ stream_at stream message.now reply.now }
 {
     match stream {
