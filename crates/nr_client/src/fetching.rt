@@ -10,7 +10,7 @@ use crate::jobs::{PieceRead, ReadJob};
 use crate::read_data::piece_left;
 use nr_outside::{Sink, Source};
 use nr_reduce::Form;
-use nr_requester::{Ticket};
+use nr_requester::Ticket;
 use nr_shared::{CallRule, Pass, SharedRequester};
 use std::sync::Wait;
 

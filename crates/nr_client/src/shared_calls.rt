@@ -21,7 +21,7 @@ use crate::call_end::CallEnd;
 use crate::client_end::ClientEnd;
 use nr_outside::{Sink, Source};
 use nr_reduce::{Call, Form, Outcome};
-use nr_requester::{Requester};
+use nr_requester::Requester;
 use nr_shared::{Appended, CallRule, InitialHistory, Pass, SharedRequester};
 use nr_xdr::Memory;
 use std::alloc::Global;
@@ -73,9 +73,7 @@ pub(crate) fn outcome_of<R: Wait, I: Source, O: Sink, C: CallRule>(
         Err(_) => return Err(ClientEnd::Memory),
     };
     match shared.call(rt, pass, call, Form::Auto) {
-        Ok(done) => {
-            Ok(done.into_outcome())
-        }
+        Ok(done) => { Ok(done.into_outcome()) }
         Err(end) => Err(ClientEnd::Link(CallEnd::of_shared(end))),
     }
 }

@@ -28,7 +28,7 @@ use crate::event::Event;
 use crate::fault::{DrainFault, ReadRefused};
 use nr_link::{Agreement, End, SideTerms};
 use nr_outside::Sink;
-use nr_regions::{Denied, Regions, Registration, Right, Why};
+use nr_regions::{Denied, Regions, Registration, Right, Why, Window};
 use nr_xdr::{Memory, Octets};
 
 impl Endpoint {
@@ -376,6 +376,22 @@ impl Endpoint {
         ensures staging { self.new.staging ≡ self.old.staging }
     {
         self.link.release(registration)
+    }
+
+    /// Returns the buffer of a region with the part of it that is the region, as [`Endpoint::release`] does the region. Nothing is moved.
+    /// Takes no memory.
+    pub fn release_part(&mut self, registration: Registration) -> Window
+        requires { IsHeld self.old.link.state.memory registration }
+        ensures bytes { result.bytes ≡ bytes_in (held_region self.old.link.state.memory registration.stag) }
+        ensures around { get self.old.outside registration.stag ≡ Some result.outside }
+        ensures len { length result.bytes ≡ registration.len }
+        ensures state { self.new.link ≡ after_call self.old.link (Release registration.stag) }
+        ensures stands { StandsOn self.old.link (Release registration.stag) self.new.link }
+        ensures room { self.old.room ≤ self.new.room }
+        ensures outside { self.new.outside ≡ remove self.old.outside registration.stag }
+        ensures staging { self.new.staging ≡ self.old.staging }
+    {
+        self.link.release_part(registration)
     }
 
     /// Returns the complete buffer of a region, as [`Endpoint::release`] does the region: its part that was registered has the region's

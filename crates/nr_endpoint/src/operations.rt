@@ -27,7 +27,7 @@ use crate::reads::OpenRead;
 use crate::requests::RemoteRead;
 use nr_link::End;
 use nr_outside::{Failed, Sink};
-use nr_regions::{Denied, Registration, Right, Why};
+use nr_regions::{Denied, Registration, Right, Why, Window};
 use nr_xdr::{Memory, Octets};
 
 impl LinkSide {
@@ -296,6 +296,19 @@ impl LinkSide {
         ensures outside { self.new.outside ≡ remove self.old.outside registration.stag }
     {
         self.regions.release(registration)
+    }
+
+    /// The buffer of a region, with the part of it that is the region.
+    pub fn release_part(&mut self, registration: Registration) -> Window
+        requires { IsHeld self.old.state.memory registration }
+        ensures bytes { result.bytes ≡ bytes_in (held_region self.old.state.memory registration.stag) }
+        ensures around { get self.old.outside registration.stag ≡ Some result.outside }
+        ensures len { length result.bytes ≡ registration.len }
+        ensures state { self.new.state ≡ record self.old.state { memory = after_release self.old.state.memory registration.stag } }
+        ensures room { self.old.room ≤ self.new.room }
+        ensures outside { self.new.outside ≡ remove self.old.outside registration.stag }
+    {
+        self.regions.release_part(registration)
     }
 
     /// The complete buffer of a region.

@@ -305,8 +305,9 @@ impl Regions {
         self.release_part(registration).into_buffer()
     }
 
+    /// Returns the buffer of a region with the part of it that is the region, as [`Regions::release`] does the region. Nothing is moved.
     #[tactic(auto, unfolding(crate::specs::RegisteredMemory::after_release, crate::specs::RegisteredMemory::held_region))]
-    fn release_part(&mut self, registration: Registration) -> Window
+    pub fn release_part(&mut self, registration: Registration) -> Window
         requires { IsHeld self.old.memory registration }
         ensures bytes { result.bytes ≡ bytes_in (held_region self.old.memory registration.stag) }
         ensures around { outside_at self.old registration.stag ≡ Some result.outside }
@@ -314,6 +315,7 @@ impl Regions {
         ensures dead { self.new.memory ≡ after_release self.old.memory registration.stag }
         ensures outside { self.new.outside ≡ remove self.old.outside registration.stag }
         ensures room { self.old.room ≤ self.new.room }
+        ensures keeps { (claim : Claim) → claim.stag ≢ registration.stag → IsHeld self.old.memory claim → IsHeld self.new.memory claim }
     {
         self.bytes -= u128::from(registration.len());
         match take_out(&mut self.held, registration.stag()) {

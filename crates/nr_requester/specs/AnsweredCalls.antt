@@ -1,5 +1,8 @@
 -- A call that was answered, as contracts see it: the same wherever the bytes of its answer are kept.
 use Rattle.std.specs.Prelude.{ℕ, ◌≤◌, List, [], length, take, drop, Option, None, Some}
+use Rattle.nr_regions.specs.RegisteredMemory.{outside_len}
+use Rattle.nr_regions.specs.Windows.{BufferParts}
+use Rattle.nr_endpoint.specs.Offering.{part_bytes}
 use Rattle.nr_reduce.specs.declared.call.Call.{Call}
 use Rattle.nr_reduce.specs.declared.call.Outcome.{Outcome}
 use Rattle.nr_reduce.specs.declared.call.Outcome.TheVariants as outcomes
@@ -22,14 +25,19 @@ pub record Done : Type 0 where
   pub buffers : Buffers
   pub outcome : Outcome
 
+-- how many bytes of a buffer are outside the part of it that is a region
+abbrev pub outside_if : Option BufferParts → ℕ
+outside_if None = 0
+outside_if (Some part) = outside_len part.outside
+
 -- where the bytes of an answer are kept
 abbrev pub buffers_in : AnswerBytes → Buffers
-buffers_in (kept.Apart buffers outcome) = buffers
+buffers_in (kept.Apart read write reply outcome) = record { read = read; write = part_bytes write; reply = reply }
 buffers_in (kept.InWrite read placed reply) = record { read = read; write = Some placed.region; reply = reply }
-buffers_in (kept.InReply read write placed) = record { read = read; write = write; reply = Some placed.region }
+buffers_in (kept.InReply read write placed) = record { read = read; write = part_bytes write; reply = Some placed.region }
 
 abbrev pub outcome_in : AnswerBytes → Outcome
-outcome_in (kept.Apart buffers outcome) = outcome
+outcome_in (kept.Apart read write reply outcome) = outcome
 outcome_in (kept.InWrite read placed reply) = outcomes.Reply placed.payload
 outcome_in (kept.InReply read write placed) = outcomes.Reply placed.payload
 

@@ -11,6 +11,7 @@ pub mod MaySubmit
 pub mod HeldClaims
 pub mod AnsweredCalls
 pub mod Parts
+pub mod ReleasedBuffers
 pub mod Buffers
 pub mod OpenCalls
 pub mod Remaining

@@ -206,15 +206,7 @@ fn hold_plan(
 {
     let stag = NUMBERS_END - endpoint.regions().stags_left();
     let lists = lists_of(alloc, stag, plan)?;
-    match hold_message(
-        alloc,
-        endpoint,
-        xid,
-        credit,
-        plan,
-        receive_length,
-        &lists,
-    ) {
+    match hold_message(alloc, endpoint, xid, credit, plan, receive_length, &lists) {
         Ok(claims) => Ok(Sent { lists, claims }),
         Err(memory) => {
             drop(lists);

@@ -1,9 +1,13 @@
 //! A call that was answered.
 
-ghost use Rattle.std.specs.Prelude.{◌≡◌, None, Some, MatchOption};
-ghost use Rattle.nr_requester.specs.AnsweredCalls.{buffers_in, outcome_in, payload_in};
+ghost use Rattle.std.specs.Prelude.{◌≡◌, ◌+◌, ◌^◌, ◌≤◌, None, Some, MatchOption};
+ghost use Rattle.nr_endpoint.specs.Offering.{part_bytes};
+ghost use Rattle.nr_reduce.specs.ClientMessages.{outcome_bytes};
+ghost use Rattle.nr_requester.specs.HeldBytes.{buffer_len};
+ghost use Rattle.nr_requester.specs.AnsweredCalls.{buffers_in, outside_if, outcome_in, payload_in};
 
 use nr_reduce::{Call, Outcome, PlacedPayload};
+use nr_regions::Window;
 use nr_xdr::Octets;
 use std::marker::Model;
 
@@ -24,8 +28,12 @@ pub struct Buffers {
 pub enum AnswerBytes {
     /// The payload, if there is one, has a buffer of its own.
     Apart {
-        /// The buffers of the call's regions.
-        buffers: Buffers,
+        /// The buffer of the read chunk.
+        read: Option<Octets>,
+        /// The buffer of the write chunk, with its region.
+        write: Option<Window>,
+        /// The buffer of the reply chunk.
+        reply: Option<Octets>,
         /// What it was answered by.
         outcome: Outcome,
     },
@@ -42,8 +50,8 @@ pub enum AnswerBytes {
     InReply {
         /// The buffer of the read chunk.
         read: Option<Octets>,
-        /// The buffer of the write chunk.
-        write: Option<Octets>,
+        /// The buffer of the write chunk, with its region.
+        write: Option<Window>,
         /// The payload and the reply chunk's region.
         placed: PlacedPayload,
     },
@@ -56,6 +64,26 @@ fn buffer_len(buffer: &Option<Octets>) -> u128
     match buffer {
         Some(bytes) => bytes.len() as u128,
         None => 0,
+    }
+}
+
+/// The bytes of a buffer that has a region as a part.
+fn part_len(part: &Option<Window>) -> u128
+    ensures { result ≡ buffer_len (part_bytes part.now) + outside_if part.now }
+{
+    match part {
+        Some(part) => part.len() as u128 + part.outside_len() as u128,
+        None => 0,
+    }
+}
+
+/// The bytes of a region, moved to the front of their buffer.
+fn region_of(part: Option<Window>) -> Option<Octets>
+    ensures { result ≡ part_bytes part }
+{
+    match part {
+        Some(part) => Some(part.into_bytes()),
+        None => None,
     }
 }
 
@@ -75,7 +103,16 @@ impl AnswerBytes {
         ensures { result ≡ buffers_in self }
     {
         match self {
-            AnswerBytes::Apart { buffers, .. } => buffers,
+            AnswerBytes::Apart {
+                read,
+                write,
+                reply,
+                ..
+            } => Buffers {
+                read,
+                write: region_of(write),
+                reply,
+            },
             AnswerBytes::InWrite {
                 read,
                 placed,
@@ -91,7 +128,7 @@ impl AnswerBytes {
                 placed,
             } => Buffers {
                 read,
-                write,
+                write: region_of(write),
                 reply: Some(placed.into_region()),
             },
         }
@@ -111,15 +148,14 @@ impl AnswerBytes {
 
 impl AnswerBytes {
     /// How many bytes are kept: those of the buffers, and of a payload that has a buffer of its own.
-    pub(crate) fn held(&self) -> u128
-    {
+    pub(crate) fn held(&self) -> u128 {
         match self {
-            AnswerBytes::Apart { buffers, outcome } => {
-                buffer_len(&buffers.read)
-                    + buffer_len(&buffers.write)
-                    + buffer_len(&buffers.reply)
-                    + payload_len(outcome)
-            }
+            AnswerBytes::Apart {
+                read,
+                write,
+                reply,
+                outcome,
+            } => { buffer_len(read) + part_len(write) + buffer_len(reply) + payload_len(outcome) }
             AnswerBytes::InWrite {
                 read,
                 placed,
@@ -129,7 +165,7 @@ impl AnswerBytes {
                 read,
                 write,
                 placed,
-            } => buffer_len(read) + buffer_len(write) + placed.held(),
+            } => buffer_len(read) + part_len(write) + placed.held(),
         }
     }
 }

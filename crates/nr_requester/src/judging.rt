@@ -211,12 +211,5 @@ pub fn verdict(
     ensures err { IfErr result.1 (λ reason. Ends (kept_message_verdict (kept_views sent calls.now) (bytes_under regions.now.memory) named message.now) reason) }
 {
     let mut room = ListsRoom::new();
-    judged(
-        regions,
-        calls,
-        sent,
-        &mut room,
-        named,
-        message,
-    )
+    judged(regions, calls, sent, &mut room, named, message)
 }

@@ -36,7 +36,7 @@ ghost use Rattle.nr_requester.specs.Views.{stored_view};
 use crate::answer::{AnswerBytes, AnsweredCall};
 use crate::judging::verdict;
 use crate::outstanding::OutstandingCall;
-use crate::releasing::{answer_by, live_claims, release_claims, with_releases};
+use crate::releasing::{answer_by, live_claims, release_parts, with_releases};
 use crate::replies::Found;
 use crate::requester::{Requester, marks_if};
 use nr_endpoint::{Claims, Endpoint, Event};
@@ -78,7 +78,7 @@ fn let_go(endpoint: &mut Endpoint, claims: Claims, room: PayloadBuffer)
     ensures outside { endpoint.new.outside ≡ without_claims claims endpoint.old.outside }
 {
     drop(room);
-    drop(release_claims(endpoint, claims));
+    drop(release_parts(endpoint, claims));
 }
 
 /// Releases the regions of a call that a message answers; the buffers, and what it was answered by. `None` if the call's memory was revoked.
@@ -108,18 +108,16 @@ fn answer_bytes(
         }
         Found::Reply { stream, item } => {
             let item_at = expected_item_at(call.prog, call.vers, call.proc);
-            Some(answer_by(
-                endpoint, claims, room, item_at, message, stream, item,
-            ))
+            Some(answer_by(endpoint, claims, room, item_at, message, stream, item))
         }
-        Found::Chunk => Some(AnswerBytes::Apart {
-            buffers: release_claims(endpoint, claims),
-            outcome: Outcome::Chunk,
-        }),
-        Found::Version { low, high } => Some(AnswerBytes::Apart {
-            buffers: release_claims(endpoint, claims),
-            outcome: Outcome::Version { low, high },
-        }),
+        Found::Chunk => {
+            drop(room);
+            Some(release_parts(endpoint, claims).with_outcome(Outcome::Chunk))
+        }
+        Found::Version { low, high } => {
+            drop(room);
+            Some(release_parts(endpoint, claims).with_outcome(Outcome::Version { low, high }))
+        }
     }
 }
 

@@ -12,18 +12,19 @@ ghost use Rattle.nr_requester.specs.AfterPiece.{buffer_under, buffers_under};
 ghost use Rattle.nr_requester.specs.CountedMarks.{with_releases};
 ghost use Rattle.nr_reduce.specs.KeptClient.{bytes_under};
 ghost use Rattle.nr_reduce.specs.declared.call.Outcome.TheVariants as outcomes;
-ghost use Rattle.nr_regions.specs.RegisteredMemory.{buffer_around};
+ghost use Rattle.nr_endpoint.specs.Offering.{part_bytes};
 ghost use Rattle.nr_requester.specs.AnsweredCalls.{StreamIn, buffers_in, outcome_in, stream_at};
+ghost use Rattle.nr_requester.specs.ReleasedBuffers.{released_buffers};
 ghost use Rattle.nr_requester.specs.Judged.{LiesWithin, outcome_by};
-ghost use Rattle.nr_requester.specs.Parts.{HasPart, HasReplyRoom, without_claims};
+ghost use Rattle.nr_requester.specs.Parts.{HasPart, HasReplyRoom, without_claim, without_claims};
 ghost use Rattle.nr_requester.specs.declared.replies.Found.TheVariants as founds;
-ghost use Rattle.std.specs.FinMap.{get, remove};
+ghost use Rattle.std.specs.FinMap.{get};
 
 use crate::answer::{AnswerBytes, Buffers};
 use crate::replies::StreamPlace;
 use nr_endpoint::{Claims, Endpoint};
 use nr_reduce::{Item, Outcome, PayloadBuffer, PlacedPayload};
-use nr_regions::Registration;
+use nr_regions::{Registration, Window};
 use nr_xdr::Octets;
 
 /// How many regions of one the peer reaches: none if there is none.
@@ -89,43 +90,85 @@ pub fn release_claims(endpoint: &mut Endpoint, claims: Claims) -> Buffers
     Buffers { read, write, reply }
 }
 
-/// Releases the region of a write chunk; its buffer, with what is before the region and behind it.
+/// The buffers of the regions of a call, as they were released: that of the write chunk with its region.
+#[derive(Drop)]
+pub struct Released {
+    /// That of the read chunk.
+    pub read: Option<Octets>,
+    /// That of the write chunk.
+    pub write: Option<Window>,
+    /// That of the reply chunk.
+    pub reply: Option<Octets>,
+}
+
+/// Releases the region of a write chunk, if there is one. Nothing is moved.
 #[tactic(auto, unfolding(nr_endpoint::specs::Calls::after_call))]
-fn release_around(endpoint: &mut Endpoint, claim: Registration) -> Octets
-    requires { IsHeld endpoint.old.link.state.memory claim }
-    ensures buffer { result ≡ buffer_around (get endpoint.old.outside claim.stag) (bytes_under endpoint.old.link.state.memory claim.stag) }
-    ensures link { endpoint.new.link ≡ with_memory (released_all endpoint.old.link.state.memory (claim.stag ∷ [])) endpoint.old.link }
+fn release_window(endpoint: &mut Endpoint, claim: Option<Registration>) -> Option<Window>
+    requires { IfSome claim (IsHeld endpoint.old.link.state.memory) }
+    ensures buffer { part_bytes result ≡ buffer_under endpoint.old.link.state.memory claim }
+    ensures around { IfSome claim (λ c. IfSome result (λ part. get endpoint.old.outside c.stag ≡ Some part.outside)) }
+    ensures link { endpoint.new.link ≡ with_memory (released_all endpoint.old.link.state.memory (stag_of claim)) endpoint.old.link }
     ensures staging { endpoint.new.staging ≡ endpoint.old.staging }
-    ensures outside { endpoint.new.outside ≡ remove endpoint.old.outside claim.stag }
+    ensures outside { endpoint.new.outside ≡ without_claim claim endpoint.old.outside }
 {
-    endpoint.release_buffer(claim)
+    match claim {
+        None => None,
+        Some(claim) => Some(endpoint.release_part(claim)),
+    }
+}
+
+/// Releases the regions of a call, and moves nothing. Takes no memory.
+pub fn release_parts(endpoint: &mut Endpoint, claims: Claims) -> Released
+    requires { AreHeldFrom endpoint.old.link.state.memory 0 (call_claims claims) }
+    ensures buffers { released_buffers result ≡ buffers_under endpoint.old.link.state.memory claims }
+    ensures link { endpoint.new.link ≡ with_memory (released_all endpoint.old.link.state.memory (stags_of claims)) endpoint.old.link }
+    ensures staging { endpoint.new.staging ≡ endpoint.old.staging }
+    ensures outside { endpoint.new.outside ≡ without_claims claims endpoint.old.outside }
+{
+    let Claims { read, write, reply } = claims;
+    let read = release_some(endpoint, read);
+    let write = release_window(endpoint, write);
+    let reply = release_some(endpoint, reply);
+    Released { read, write, reply }
+}
+
+impl Released {
+    /// The buffers, and an outcome whose payload, if it has one, isn't in them.
+    pub fn with_outcome(self, outcome: Outcome) -> AnswerBytes
+        ensures { (buffers_in result ≡ released_buffers self) × (outcome_in result ≡ outcome) }
+    {
+        let Released { read, write, reply } = self;
+        AnswerBytes::Apart {
+            read,
+            write,
+            reply,
+            outcome,
+        }
+    }
 }
 
 /// The buffers of a call and its reply, which is the stream alone: copied into the room of the call, or as it stands in the region of the reply
 /// chunk.
 fn stream_answer(
-    buffers: Buffers,
+    released: Released,
     room: PayloadBuffer,
     message: &[u8],
     stream: StreamPlace,
 ) -> AnswerBytes
-    requires lies { StreamIn stream (length message.now) buffers.reply }
+    requires lies { StreamIn stream (length message.now) released.reply }
     requires room { length message.now ≤ room.len }
-    ensures buffers { buffers_in result ≡ buffers }
-    ensures outcome { outcome_in result ≡ outcomes.Reply (stream_at stream message.now buffers.reply) }
+    ensures buffers { buffers_in result ≡ released_buffers released }
+    ensures outcome { outcome_in result ≡ outcomes.Reply (stream_at stream message.now released.reply) }
 {
     let mut room = room;
     match stream {
         StreamPlace::Message { at } => {
             let (_, stream) = message.split_at(at);
             room.put(0, stream);
-            AnswerBytes::Apart {
-                buffers,
-                outcome: Outcome::Reply(room.into_first(stream.len())),
-            }
+            released.with_outcome(Outcome::Reply(room.into_first(stream.len())))
         }
         StreamPlace::Region { len } => {
-            let Buffers { read, write, reply } = buffers;
+            let Released { read, write, reply } = released;
             let Some(reply) = reply else {
                 unreachable!();
             };
@@ -179,19 +222,17 @@ pub fn answer_by(
     ensures staging { endpoint.new.staging ≡ endpoint.old.staging }
     ensures outside { endpoint.new.outside ≡ without_claims claims endpoint.old.outside }
 {
+    let released = release_parts(endpoint, claims);
     let Some(item) = item else {
-        return stream_answer(release_claims(endpoint, claims), room, message, stream);
+        return stream_answer(released, room, message, stream);
     };
-    let Claims { read, write, reply } = claims;
+    let Released { read, write, reply } = released;
     let Some(write) = write else {
         unreachable!();
     };
-    let region_len = write.len() as usize;
-    let read = release_some(endpoint, read);
-    let buffer = release_around(endpoint, write);
-    let reply = release_some(endpoint, reply);
+    let region_len = write.len();
     let placed = PlacedPayload::complete(
-        buffer,
+        write.into_buffer(),
         item_at,
         region_len,
         room,

@@ -44,7 +44,10 @@ pub enum Found {
     /// The error message ERR_CHUNK (RFC 8166 sections 4.5.2, 4.5.3).
     Chunk,
     /// The error message ERR_VERS, with the versions supported (RFC 8166 section 4.5.1).
-    Version { low: u32, high: u32 },
+    Version {
+        low: u32,
+        high: u32,
+    },
 }
 
 /// How many bytes came in a chunk.

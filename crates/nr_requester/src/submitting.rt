@@ -123,15 +123,7 @@ fn send_plan(
 {
     let stag = NUMBERS_END - endpoint.regions().stags_left();
     let lists = lists_of(alloc, stag, plan)?;
-    match offer_plan(
-        alloc,
-        endpoint,
-        xid,
-        credit,
-        plan,
-        receive_length,
-        &lists,
-    ) {
+    match offer_plan(alloc, endpoint, xid, credit, plan, receive_length, &lists) {
         Ok(claims) => Ok(Sent { lists, claims }),
         Err(memory) => {
             drop(lists);
