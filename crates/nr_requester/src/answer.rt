@@ -205,6 +205,18 @@ impl AnsweredCall {
         self.xid
     }
 
+    /// The call.
+    pub(crate) fn call(&self) -> &Call
+        ensures { result.now ≡ self.now.call }
+    {
+        &self.call
+    }
+
+    /// How many bytes are kept of the answer: those of the buffers, and of a payload that has a buffer of its own.
+    pub(crate) fn held(&self) -> u128 {
+        self.bytes.held()
+    }
+
     /// The call and its buffers. The answer is dropped. Takes no memory.
     pub(crate) fn into_buffers(self) -> (Call, Buffers)
         ensures { (result.0 ≡ self.call) × (result.1 ≡ self.buffers) }

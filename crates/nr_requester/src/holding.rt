@@ -12,7 +12,7 @@ use crate::answer::AnsweredCall;
 use crate::outstanding::OutstandingCall;
 use crate::requester::Requester;
 use nr_endpoint::Endpoint;
-use nr_reduce::{Call, Outcome};
+use nr_reduce::Call;
 use nr_rpc::Cred;
 use nr_xdr::Octets;
 use std::mem::size_of;
@@ -94,32 +94,10 @@ fn rooms_bytes(calls: &[OutstandingCall]) -> u128
     sum
 }
 
-fn outcome_bytes(outcome: &Outcome) -> usize
-    ensures { result ≡ outcome_bytes outcome.now }
-{
-    match outcome {
-        Outcome::Reply(payload) => payload.len(),
-        Outcome::Chunk => 0,
-        Outcome::Version { .. } => 0,
-    }
-}
-
-fn buffer_len(buffer: &Option<Octets>) -> u128
-    ensures is { result ≡ buffer_len buffer.now }
-    ensures small { result ≤ 2 ^ 64 }
-{
-    match buffer {
-        Some(bytes) => bytes.len() as u128,
-        None => 0,
-    }
-}
-
 fn answer_bytes(answer: &AnsweredCall) -> u128
-    ensures { result ≡ answer_bytes answer.now }
+    ensures { result ≤ answer_bytes answer.now }
 {
-    let buffers = buffer_len(&answer.buffers.read)
-        + (buffer_len(&answer.buffers.write) + buffer_len(&answer.buffers.reply));
-    ANSWER_SIZE + (call_bytes(&answer.call) + (buffers + outcome_bytes(&answer.outcome) as u128))
+    ANSWER_SIZE + (call_bytes(answer.call()) + answer.held())
 }
 
 fn answers_bytes(answers: &[AnsweredCall]) -> u128
