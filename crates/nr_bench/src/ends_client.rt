@@ -7,7 +7,7 @@ ghost use Rattle.nr_rpc.specs.Credential.{CanWriteCred};
 use crate::ends_link::fed_after;
 use nr_outside::{Failed, Sink};
 use nr_reduce::{Call, Form, Outcome};
-use nr_requester::{Done, Requester, Take, Ticket};
+use nr_requester::{Requester, Take, Ticket};
 use std::alloc::Global;
 use std::marker::Model;
 
@@ -98,7 +98,7 @@ impl Client {
     pub fn take(&mut self) -> Option<(Call, Outcome)> {
         let ticket = self.awaited.take()?;
         match self.end.try_take(ticket) {
-            Take::Done(Done { call, outcome, .. }) => Some((call, outcome)),
+            Take::Done(done) => Some(done.into_call_and_outcome()),
             Take::NotYet(ticket) => {
                 drop(ticket);
                 None

@@ -3,7 +3,7 @@
 use nr_nfs_base::{NFS_PROGRAM, NFS_VERSION};
 use nr_outside::{Sink, Source};
 use nr_reduce::{Call, Form, Outcome};
-use nr_requester::{Done, Requester, Take, Ticket};
+use nr_requester::{Requester, Take, Ticket};
 use nr_rpc::{Cred, Gids};
 use nr_xdr::{Memory, Octets};
 use std::alloc::Global;
@@ -84,7 +84,10 @@ impl Client {
         let ticket = self.awaited.pop_front()?;
         self.end.facts();
         match self.end.try_take(ticket) {
-            Take::Done(Done { call, outcome, .. }) => Some((call.args, outcome)),
+            Take::Done(done) => {
+                let (call, outcome) = done.into_call_and_outcome();
+                Some((call.args, outcome))
+            }
             Take::NotYet(ticket) => {
                 drop(ticket);
                 None

@@ -102,7 +102,7 @@ fn read_number<R: Wait, I: Source, O: Sink>(
         Err(_) => return Answer::Other,
     };
     match shared.call(rt, pass, call, Form::Auto) {
-        Ok(done) => answer_of(&done.outcome, number),
+        Ok(done) => answer_of(&done.into_outcome(), number),
         Err(_) => Answer::None,
     }
 }

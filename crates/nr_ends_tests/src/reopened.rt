@@ -163,7 +163,10 @@ fn taken_afterwards(rt: &impl Abort, alloc: Global, link: &mut TestLink) {
         (0, true),
     );
     match link.take(ticket) {
-        Take::Done(done) => same(rt, 2, has_bytes(&done.buffers, b"hello"), true),
+        Take::Done(done) => {
+            let (_call, buffers) = done.into_buffers();
+            same(rt, 2, has_bytes(&buffers, b"hello"), true);
+        }
         _ => panic!(rt; "no answer"),
     }
 }

@@ -225,13 +225,12 @@ impl AnsweredCall {
         (call, bytes.into_buffers())
     }
 
-    /// What the call was answered by. The call and its buffers are dropped. Takes no memory.
-    pub(crate) fn into_outcome(self) -> Outcome
-        ensures { result ≡ self.outcome }
+    /// The call, and what it was answered by. Its buffers are dropped. Takes no memory.
+    pub(crate) fn into_outcome(self) -> (Call, Outcome)
+        ensures { (result.0 ≡ self.call) × (result.1 ≡ self.outcome) }
     {
         let AnsweredCall { call, bytes, .. } = self;
-        drop(call);
-        bytes.into_outcome()
+        (call, bytes.into_outcome())
     }
 }
 
@@ -265,7 +264,23 @@ impl Done {
     pub fn into_outcome(self) -> Outcome
         ensures { result ≡ self.outcome }
     {
+        let (call, outcome) = self.answer.into_outcome();
+        drop(call);
+        outcome
+    }
+
+    /// The call, and what it was answered by. Its buffers are dropped. Takes no memory.
+    pub fn into_call_and_outcome(self) -> (Call, Outcome)
+        ensures { (result.0 ≡ self.call) × (result.1 ≡ self.outcome) }
+    {
         self.answer.into_outcome()
+    }
+
+    /// The call.
+    pub fn call(&self) -> &Call
+        ensures { result.now ≡ self.now.call }
+    {
+        self.answer.call()
     }
 
     /// The call and the buffers of its regions. What it was answered by is dropped. Takes no memory.
