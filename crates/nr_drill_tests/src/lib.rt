@@ -1,5 +1,5 @@
 //! Tests of what no run of the program shows of drills: a script that is made from a seed (`nr_script`), whose numbers were worked out
-//! by hand, what crossed a link (`nr_drill`, `nr_marks`), and captures (`nr_capture`). What is printed of a drill is in `nr_cases`.
+//! by hand, what crossed a link (`nr_drill`, `nr_marks`), and captures (`nr_capture`, `nr_judge`). What is printed of a drill is in `nr_cases`.
 //!
 //! They stand in a crate of their own, above the crates that they test, since a crate with tests is proved twice.
 #![tactic(auto)]
@@ -10,6 +10,8 @@ mod captures;
 mod compare;
 #[cfg(test)]
 mod held;
+#[cfg(test)]
+mod judged;
 #[cfg(test)]
 mod logs;
 #[cfg(test)]
