@@ -258,14 +258,14 @@ next_by_sends opened link run none =
 calls_below : (opened : LinkParameters) (link : ℕ) (run : List Mark) → opened.resumed ≡ [] → AskedSoFar opened link run → CallsBelow (next_at opened link run) (client opened link run).state.outstanding
 calls_below opened link run none asked =
     each_below (λ (o : OutstandingCall). (o.xid ≡ xid_of_send opened o.send) × (o.send < (client opened link run).state.sends)) (λ (o : OutstandingCall). o.xid < next_at opened link run)
-        (client opened link run).state.outstanding
-        (λ o h. (
-            let own = h.0 in
-            let sent = h.1 in
-            let by = xid_by_send opened o.send none in
-            let next = next_by_sends opened link run none in
-            omega (arith, own, sent, by, next)))
-        (xids_follow opened link run asked)
+    (client opened link run).state.outstanding
+    (λ o h. (
+    let own = h.0 in
+    let sent = h.1 in
+    let by = xid_by_send opened o.send none in
+    let next = next_by_sends opened link run none in
+    omega (arith, own, sent, by, next)))
+    (xids_follow opened link run asked)
 
 outcomes_from : (opened : LinkParameters) (link : ℕ) (before run : List Mark) → opened.resumed ≡ [] → AskedSoFar opened link before → OutcomesBelow (next_at opened link before) (client opened link before).state.outcomes →
     AtEachMark (AskedMark IsPrefixOf opened link) before run → OutcomesBelow (next_at opened link (before ++ run)) (client opened link (before ++ run)).state.outcomes
@@ -273,11 +273,11 @@ outcomes_from opened link before [] none asked h rest = subst (λ (r : List Mark
 outcomes_from opened link before (mark ∷ run) none asked h rest =
     let rises : next_at opened link before ≤ next_at opened link (before ++ mark ∷ []) = sent_rises IsPrefixOf opened link before (mark ∷ []) (rest.0, tt) in
     let after : OutcomesBelow (next_at opened link before) (client opened link (before ++ mark ∷ [])).state.outcomes =
-        subst (λ (r : EndState ClientState). OutcomesBelow (next_at opened link before) r.state.outcomes) (sym (client_one opened link before mark))
-        (mark_below (next_at opened link before) opened link before mark (calls_below opened link before none asked, h)) in
+    subst (λ (r : EndState ClientState). OutcomesBelow (next_at opened link before) r.state.outcomes) (sym (client_one opened link before mark))
+    (mark_below (next_at opened link before) opened link before mark (calls_below opened link before none asked, h)) in
     subst (λ (r : List Mark). OutcomesBelow (next_at opened link r) (client opened link r).state.outcomes) (append_assoc before (mark ∷ []) run)
     (outcomes_from opened link (before ++ mark ∷ []) run none (AtEachMark_more (AskedMark IsPrefixOf opened link) [] before mark asked rest.0)
-        (below_later (next_at opened link before) (next_at opened link (before ++ mark ∷ [])) (client opened link (before ++ mark ∷ [])).state.outcomes rises after) rest.1)
+    (below_later (next_at opened link before) (next_at opened link (before ++ mark ∷ [])) (client opened link (before ++ mark ∷ [])).state.outcomes rises after) rest.1)
 
 no_outcome_yet : (opened : LinkParameters) (link : ℕ) → OutcomesBelow (next_at opened link []) (client opened link []).state.outcomes
 unfolding client events
@@ -352,6 +352,6 @@ came_go_on s link run mark next came new none so_far asked awaits grown h c = (
     is_kept is (inl there) =
         let lt : c.xid < next_at (s.opened link) link run = below_in (next_at (s.opened link) link run) (client (s.opened link) link run).state.outcomes c (outcomes_below (s.opened link) link run none so_far) there in
         let was : IsAwaited link run c.xid = was_awaited link run (mark_after s run mark) c.xid
-            (λ a own same. (let own_next = accepts_next (s.opened link) link run (mark_after s run mark) a asked own in omega (arith, lt, own_next, same))) is in
+        (λ a own same. (let own_next = accepts_next (s.opened link) link run (mark_after s run mark) a asked own in omega (arith, lt, own_next, same))) is in
         Contains-append_left came new c ((h c).1 (there, was))
     is_kept is (inr there) = Contains-append_right came new c there

@@ -1,6 +1,8 @@
 //! Laws of what a judge tests, and of the run that a capture tells.
 
 ghost use Rattle.nr_judge.specs.Awaiting.{AwaitedGoOn, CameGoOn};
+ghost use Rattle.nr_judge.specs.Input.{FramesAreTaken};
+ghost use Rattle.nr_judge.specs.Output.{AskedGoesOnInFull, ServedGoesOnInFull};
 ghost use Rattle.nr_judge.specs.PlainRuns.{ServedRunIsPlain};
 ghost use Rattle.nr_judge.specs.Tests.{AskedEndIsTested, AskedInFullIsTested, AskedIsTested, GrantIsTested, ServedEndIsTested, ServedInFullIsTested, ServedIsTested};
 
@@ -29,4 +31,17 @@ pub fn awaited_calls_go_on()
 /// has the reply of the plain server over the journal of its moment, and its place in the one journal.
 pub fn served_runs_are_plain()
     ensures { ServedRunIsPlain }
+{}
+
+/// The frames that are taken one after another off the front of what a side keeps and a piece are those that the piece completes, and what is
+/// kept then is the input after the piece.
+pub fn frames_are_taken()
+    ensures { FramesAreTaken }
+{}
+
+/// If each line so far met its test, and a Wrote of a side took all that was due as often as its queue says, the law of that side holds in full of
+/// the marks so far if and only if the queue is whole. It is so after a line more.
+pub fn laws_go_on_in_full()
+    ensures asked { AskedGoesOnInFull }
+    ensures served { ServedGoesOnInFull }
 {}

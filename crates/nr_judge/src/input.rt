@@ -1,0 +1,115 @@
+//! The frames of what a side of a link received.
+
+ghost use Rattle.std.specs.Prelude.{◌≡◌, true, OnOk};
+ghost use Rattle.nr_wire.specs.Stream.{frame_len, is_whole};
+ghost use Rattle.nr_link.specs.Input.{initial_input};
+ghost use Rattle.nr_judge.specs.Input.{IsFront, after_front, with_piece};
+
+use nr_wire::{Awaited, Side, whole_frame};
+use nr_xdr::Memory;
+use std::alloc::Global;
+use std::marker::Model;
+
+/// What a side of a link received and that wasn't read yet: less than a frame, or the frames that came with one piece. Contracts see
+/// it as the input that an end keeps.
+#[derive(Drop)]
+pub(crate) struct Input {
+    awaited: Awaited,
+    bytes: Vec<u8>,
+    // How many bytes at the front of the buffer were read.
+    at: usize,
+    // The offset in the stream of the first byte that wasn't read.
+    place: u64,
+}
+
+impl Model for Input {
+    ghost use Rattle.std.specs.Prelude.{ℕ, ◌+◌, ◌-◌, ◌<◌, ◌^◌, drop, length, ◌≤◌};
+    ghost use Rattle.nr_link.specs.Input.{InputState};
+
+    ghost Value = { InputState };
+
+    ghost view = { λ s. record { awaited = s.awaited; rest = drop s.at s.bytes.items; place = s.place } };
+
+    ghost invariant = { λ s. (s.at ≤ length s.bytes.items) × (s.place + (length s.bytes.items - s.at) < 2 ^ 64) };
+}
+
+/// A frame: the offset of its first byte in the stream, the offset after its last, and its bytes.
+#[derive(Clone, Copy)]
+pub(crate) struct FrameAt<'a> {
+    pub(crate) at: u64,
+    pub(crate) end: u64,
+    pub(crate) bytes: &'a [u8],
+}
+
+impl Model for FrameAt<'_> {
+    ghost use Rattle.nr_link.specs.Frames.{Frame};
+
+    ghost Value = { Frame };
+
+    ghost view = { λ s. record { at = s.at; end = s.end; bytes = s.bytes } };
+}
+
+impl Input {
+    /// Nothing was received of the stream that this side writes.
+    pub(crate) fn new(alloc: Global, peer: Side) -> Input
+        ensures { result ≡ initial_input peer }
+    {
+        Input {
+            awaited: Awaited::Hello(peer),
+            bytes: Vec::new(alloc),
+            at: 0,
+            place: 0,
+        }
+    }
+
+    // Moves what wasn't read to the front of the buffer. Each byte is moved once at most: what is left is less than a frame, and goes with it.
+    fn compact(&mut self)
+        ensures { self.new ≡ self.old }
+    {
+        let end = self.bytes.len();
+        let left = end - self.at;
+        self.bytes.copy_within(self.at..end, 0);
+        self.bytes.truncate(left);
+        self.at = 0;
+    }
+
+    /// A piece was received, after all frames before it were taken. It fails if memory runs out, or if that would be 2^64 bytes in all.
+    pub(crate) fn put(&mut self, piece: &[u8]) -> Result<(), Memory>
+        ensures { OnOk result (self.new ≡ with_piece self.old piece.now) }
+    {
+        if self.at > 0 {
+            self.compact();
+        }
+        let received = self.place + (self.bytes.len() - self.at) as u64;
+        if received.checked_add(piece.len() as u64).is_none() {
+            return Err(Memory);
+        }
+        self.bytes.extend_from_slice(piece)?;
+        Ok(())
+    }
+
+    /// The complete frame at the front, if there is one.
+    pub(crate) fn front(&self) -> Option<FrameAt<'_>>
+        ensures { IsFront self.now result }
+    {
+        let (_, waiting) = self.bytes.as_slice().split_at(self.at);
+        let len = whole_frame(self.awaited, waiting)?;
+        let (bytes, _) = waiting.split_at(len);
+        Some(FrameAt {
+            at: self.place,
+            end: self.place + len as u64,
+            bytes,
+        })
+    }
+
+    /// The frame at the front, which has this length, was read.
+    pub(crate) fn pass(&mut self, len: usize)
+        requires whole { is_whole self.old.awaited self.old.rest ≡ true }
+        requires len { len ≡ frame_len self.old.awaited self.old.rest }
+        ensures { self.new ≡ after_front self.old }
+    {
+        self.awaited = Awaited::Fpdu;
+        self.at += len;
+        self.place += len as u64;
+    }
+}
