@@ -1,5 +1,5 @@
 -- The frames of what a side receives, taken one after another off the front of the bytes that are kept.
-use Rattle.std.specs.Prelude.{◌≡◌, ℕ, ◌+◌, true, false, List, [], ◌∷◌, ◌++◌, take, drop, Option, None, Some}
+use Rattle.std.specs.Prelude.{◌≡◌, ℕ, ◌+◌, true, if◌then◌else◌, List, [], ◌∷◌, ◌++◌, take, drop, Option, None, Some, is_some}
 use Rattle.nr_wire.specs.declared.stream.Awaited.TheVariants.{Fpdu}
 use Rattle.nr_wire.specs.Stream.{frame_len, is_whole}
 use Rattle.nr_link.specs.Frames.{Frame}
@@ -9,7 +9,11 @@ use Rattle.nr_link.specs.Input.{InputState, input_frames, input_after}
 abbrev pub with_piece : InputState → List ℕ → InputState
 with_piece input piece = record input { rest = input.rest ++ piece }
 
--- the complete frame with which it begins, and what is kept after that
+-- the length of the complete frame with which it begins, if there is one
+abbrev pub front_len : InputState → Option ℕ
+front_len input = if is_whole input.awaited input.rest then Some (frame_len input.awaited input.rest) else None
+
+-- that frame, and what is kept after it
 abbrev pub front_frame : InputState → Frame
 front_frame input = record {
   at = input.place;
@@ -24,15 +28,10 @@ after_front input = record {
   place = input.place + frame_len input.awaited input.rest;
 }
 
--- This frame is at the front, or none is complete.
-abbrev pub IsFront : InputState → Option Frame → Type 0
-IsFront input None = is_whole input.awaited input.rest ≡ false
-IsFront input (Some f) = (is_whole input.awaited input.rest ≡ true) × (f ≡ front_frame input)
-
 -- These frames are taken off the front, one after another, and then none is complete.
 abbrev pub TakesFrames : InputState → List Frame → InputState → Type 0
-TakesFrames old [] new = IsFront old None × (new ≡ old)
-TakesFrames old (f ∷ frames) new = IsFront old (Some f) × TakesFrames (after_front old) frames new
+TakesFrames old [] new = (front_len old ≡ None) × (new ≡ old)
+TakesFrames old (f ∷ frames) new = (is_some (front_len old) ≡ true) × (f ≡ front_frame old) × TakesFrames (after_front old) frames new
 
 -- The frames that are taken once a piece has come are those that it completes, and what is kept then is the input after it.
 abbrev pub FramesAreTaken : Type 0

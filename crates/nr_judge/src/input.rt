@@ -1,9 +1,8 @@
 //! The frames of what a side of a link received.
 
-ghost use Rattle.std.specs.Prelude.{◌≡◌, true, OnOk};
-ghost use Rattle.nr_wire.specs.Stream.{frame_len, is_whole};
+ghost use Rattle.std.specs.Prelude.{◌≡◌, ◌≤◌, length, take, Some, OnOk};
 ghost use Rattle.nr_link.specs.Input.{initial_input};
-ghost use Rattle.nr_judge.specs.Input.{IsFront, after_front, with_piece};
+ghost use Rattle.nr_judge.specs.Input.{after_front, front_len, with_piece};
 
 use nr_wire::{Awaited, Side, whole_frame};
 use nr_xdr::Memory;
@@ -31,22 +30,6 @@ impl Model for Input {
     ghost view = { λ s. record { awaited = s.awaited; rest = drop s.at s.bytes.items; place = s.place } };
 
     ghost invariant = { λ s. (s.at ≤ length s.bytes.items) × (s.place + (length s.bytes.items - s.at) < 2 ^ 64) };
-}
-
-/// A frame: the offset of its first byte in the stream, the offset after its last, and its bytes.
-#[derive(Clone, Copy)]
-pub(crate) struct FrameAt<'a> {
-    pub(crate) at: u64,
-    pub(crate) end: u64,
-    pub(crate) bytes: &'a [u8],
-}
-
-impl Model for FrameAt<'_> {
-    ghost use Rattle.nr_link.specs.Frames.{Frame};
-
-    ghost Value = { Frame };
-
-    ghost view = { λ s. record { at = s.at; end = s.end; bytes = s.bytes } };
 }
 
 impl Input {
@@ -88,24 +71,34 @@ impl Input {
         Ok(())
     }
 
-    /// The complete frame at the front, if there is one.
-    pub(crate) fn front(&self) -> Option<FrameAt<'_>>
-        ensures { IsFront self.now result }
+    /// The length of the complete frame at the front, if there is one.
+    pub(crate) fn front_len(&self) -> Option<usize>
+        ensures { result ≡ front_len self.now }
     {
         let (_, waiting) = self.bytes.as_slice().split_at(self.at);
-        let len = whole_frame(self.awaited, waiting)?;
+        whole_frame(self.awaited, waiting)
+    }
+
+    /// The first bytes that weren't read.
+    pub(crate) fn front(&self, len: usize) -> &[u8]
+        requires { len ≤ length self.now.rest }
+        ensures { result.now ≡ take len self.now.rest }
+    {
+        let (_, waiting) = self.bytes.as_slice().split_at(self.at);
         let (bytes, _) = waiting.split_at(len);
-        Some(FrameAt {
-            at: self.place,
-            end: self.place + len as u64,
-            bytes,
-        })
+        bytes
+    }
+
+    /// The offset of these bytes in the stream.
+    pub(crate) fn place(&self) -> u64
+        ensures { result ≡ self.now.place }
+    {
+        self.place
     }
 
     /// The frame at the front, which has this length, was read.
     pub(crate) fn pass(&mut self, len: usize)
-        requires whole { is_whole self.old.awaited self.old.rest ≡ true }
-        requires len { len ≡ frame_len self.old.awaited self.old.rest }
+        requires { Some len ≡ front_len self.old }
         ensures { self.new ≡ after_front self.old }
     {
         self.awaited = Awaited::Fpdu;
