@@ -23,7 +23,7 @@ moved_front at n bytes len within =
 
 -- ---- Frame by frame
 
-value_or : ℕ → Option ℕ → ℕ
+abbrev value_or : ℕ → Option ℕ → ℕ
 value_or n None = n
 value_or n (Some m) = m
 

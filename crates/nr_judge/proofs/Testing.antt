@@ -1,5 +1,5 @@
 -- Each test of a line is met if and only if the mark of the line keeps its law.
-use Rattle.std.proofs.Common.{◌≡◌, ℕ, ◌+◌, ◌<◌, ◌≤◌, ◌↔◌, List, [], ◌++◌, map, Option, None, Some, refl, sym, ap, subst, ◌∙◌, append-nil, append_assoc}
+use Rattle.std.proofs.Common.{◌≡◌, ℕ, ◌+◌, ◌<◌, ◌≤◌, ◌↔◌, List, [], ◌++◌, length, map, Option, None, Some, refl, sym, ap, subst, ◌∙◌, append-nil, append_assoc}
 use Rattle.std.specs.Prelude.{Contains}
 use Rattle.std.proofs.lemmas.List.{append_cancel_left}
 use Rattle.nr_wire.specs.declared.hello.Side.TheVariants.{Initiator, Responder}
@@ -13,14 +13,15 @@ use Rattle.nr_reduce.specs.declared.outline.Plan.{Plan}
 use Rattle.nr_reduce.specs.Limits.{numbers_end}
 use Rattle.nr_reduce.specs.Plans.{plan_of, regions_needed}
 use Rattle.nr_reduce.specs.History.{AcceptedCall, accepted_calls, bytes_sent}
-use Rattle.nr_reduce.specs.ClientState.{WaitingCall, ClientState, call_payload, plan_for, plan_unless, first_of, stags_taken, stags_unless_waiting}
+use Rattle.nr_reduce.specs.ClientState.{OutstandingCall, WaitingCall, ClientState, call_payload, plan_for, plan_unless, first_of, stags_taken, stags_unless_waiting}
 use Rattle.nr_reduce.specs.Run.{client, server, output_due}
 use Rattle.nr_reduce.specs.Credits.{calls_outstanding, credits_granted}
 use Rattle.nr_reduce.specs.SubmitAnswer.{first_xid_or, next_sent_xid}
+use Rattle.nr_reduce.specs.KeptCalls.{numbered_from}
 use Rattle.nr_reduce.specs.Matched.{IsPrefixOf}
 use Rattle.nr_reduce.specs.Asked.{AskedMark, IsAll, IsAccepted, IsResent, IsAwaited, IsAwaitedOf, IsAwaitedOrWaits, as_accepted, client_calls, revoked_bytes}
 use Rattle.nr_reduce.specs.Served.{ServedMark, IsExecuted, first_ready, next_call}
-use Rattle.nr_reduce.proofs.Unresumed.{resent_marks, none_resent, awaited_or_waits}
+use Rattle.nr_reduce.proofs.Unresumed.{resent_marks, none_resent, none_waits, awaited_or_waits}
 use Rattle.nr_capture.specs.declared.capture.CapturedMark.{CapturedMark}
 use Rattle.nr_capture.specs.declared.capture.CapturedMark.TheVariants as marks
 use Rattle.nr_judge.specs.CapturedRun.{Setting, mark_after, payload_or_none}
@@ -67,7 +68,7 @@ next_is k none = ap (λ (ws : List WaitingCall). first_xid_or k.next_xid ws) non
 kept_plan : (opened : LinkParameters) (link : ℕ) (j : JudgedClient) (run : List Mark) (xid : ℕ) (call : Call) (form : Form) → ClientIsJudged opened link j run →
     plan_for (client opened link run).state xid call form ≡ plan_of (call_payload xid call) form j.kept.up_max j.kept.down_max
 kept_plan opened link j run xid call form h =
-    plan_is (client opened link run).state xid call form h.keeps.first.0
+    plan_is (client opened link run).state xid call form (none_waits opened link run h.first)
     ∙ sym (λ i. plan_of (call_payload xid call) form (h.keeps.up i) (h.keeps.down i))
 
 -- the STags that are left are the same
@@ -75,7 +76,7 @@ kept_stags : (opened : LinkParameters) (link : ℕ) (j : JudgedClient) (run : Li
     j.kept.memory.next + regions_needed plan ≡ (client opened link run).state.stag + stags_taken (client opened link run).state xid plan
 kept_stags opened link j run xid plan h lives =
     let next : j.kept.memory.next ≡ (client opened link run).state.stag = (h.keeps.memory lives).next in
-    λ i. next i + sym (stags_are (client opened link run).state xid plan h.keeps.first.0) i
+    λ i. next i + sym (stags_are (client opened link run).state xid plan (none_waits opened link run h.first)) i
 
 accepts_only_if : (opened : LinkParameters) (link : ℕ) (j : JudgedClient) (run : List Mark) (call : Call) (form : Form) (xid : ℕ) → ClientIsJudged opened link j run →
     KeptAccepts j.kept call form xid → IsAccepted opened link run call form xid
@@ -83,8 +84,8 @@ accepts_only_if opened link j run call form xid h t =
     let lives : (client opened link run).ended ≡ None = sym h.keeps.ended ∙ t.stays in
     record {
       stays = sym h.keeps.ended ∙ t.stays;
-      next = t.next ∙ h.keeps.xid ∙ sym (next_is (client opened link run).state h.keeps.first.0);
-      resent = subst (λ (ws : List WaitingCall). IsResent (client opened link run).state.has_hello (client opened link run).state.next_xid ws call form) (sym h.keeps.first.0) tt;
+      next = t.next ∙ h.keeps.xid ∙ sym (next_is (client opened link run).state (none_waits opened link run h.first));
+      resent = subst (λ (ws : List WaitingCall). IsResent (client opened link run).state.has_hello (client opened link run).state.next_xid ws call form) (sym (none_waits opened link run h.first)) tt;
       plan = t.plan;
       planned = kept_plan opened link j run xid call form h ∙ t.planned;
       xids = t.xids;
@@ -96,7 +97,7 @@ accepts_if : (opened : LinkParameters) (link : ℕ) (j : JudgedClient) (run : Li
     IsAccepted opened link run call form xid → KeptAccepts j.kept call form xid
 accepts_if opened link j run call form xid h a = record {
   stays = h.keeps.ended ∙ a.stays;
-  next = a.next ∙ next_is (client opened link run).state h.keeps.first.0 ∙ sym h.keeps.xid;
+  next = a.next ∙ next_is (client opened link run).state (none_waits opened link run h.first) ∙ sym h.keeps.xid;
   plan = a.plan;
   planned = sym (kept_plan opened link j run xid call form h) ∙ a.planned;
   xids = a.xids;
@@ -160,11 +161,17 @@ asked_is_tested s link j run mark h = asked_by IsPrefixOf prefix_cancels s link 
 pub asked_in_full_is_tested : AskedInFullIsTested
 asked_in_full_is_tested s link j run mark h = asked_by IsAll all_cancels s link j run mark h
 
+-- it keeps how many calls are outstanding
+count_is : (opened : LinkParameters) (link : ℕ) (j : JudgedClient) (run : List Mark) → ClientIsJudged opened link j run → j.kept.outstanding ≡ length (client opened link run).state.outstanding
+count_is opened link j run h =
+    h.keeps.outstanding ∙ ap (λ (ws : List WaitingCall). length ((client opened link run).state.outstanding ++ numbered_from (client opened link run).state.sends ws)) (none_waits opened link run h.first)
+    ∙ ap (λ (os : List OutstandingCall). length os) (append-nil (client opened link run).state.outstanding)
+
 pub grant_is_tested : GrantIsTested
 unfolding mark_after calls_outstanding credits_granted
 grant_is_tested s link j run (marks.Submit l xid form call) h = (
-  λ t own. subst (λ (n : ℕ). n < (client (s.opened link) link run).state.grant) h.keeps.outstanding (subst (λ (n : ℕ). j.kept.outstanding < n) h.keeps.grant (t own)),
-  λ a own. subst (λ (n : ℕ). j.kept.outstanding < n) (sym h.keeps.grant) (subst (λ (n : ℕ). n < (client (s.opened link) link run).state.grant) (sym h.keeps.outstanding) (a own)),
+  λ t own. subst (λ (n : ℕ). n < (client (s.opened link) link run).state.grant) (count_is (s.opened link) link j run h) (subst (λ (n : ℕ). j.kept.outstanding < n) h.keeps.grant (t own)),
+  λ a own. subst (λ (n : ℕ). j.kept.outstanding < n) (sym h.keeps.grant) (subst (λ (n : ℕ). n < (client (s.opened link) link run).state.grant) (sym (count_is (s.opened link) link j run h)) (a own)),
 )
 grant_is_tested s link j run (marks.Out l side bytes) h = both
 grant_is_tested s link j run (marks.In l side bytes) h = both

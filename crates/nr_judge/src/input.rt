@@ -1,6 +1,6 @@
 //! The frames of what a side of a link received.
 
-ghost use Rattle.std.specs.Prelude.{◌≡◌, ◌≤◌, length, take, Some, OnOk};
+ghost use Rattle.std.specs.Prelude.{◌≡◌, ◌≤◌, if◌then◌else◌, is_some, length, take, OnOk};
 ghost use Rattle.nr_link.specs.Input.{initial_input};
 ghost use Rattle.nr_judge.specs.Input.{after_front, front_len, with_piece};
 
@@ -96,13 +96,15 @@ impl Input {
         self.place
     }
 
-    /// The frame at the front, which has this length, was read.
-    pub(crate) fn pass(&mut self, len: usize)
-        requires { Some len ≡ front_len self.old }
-        ensures { self.new ≡ after_front self.old }
+    /// The frame at the front was read. If none is complete, nothing changes.
+    pub(crate) fn pass(&mut self)
+        ensures { self.new ≡ (if is_some (front_len self.old) then after_front self.old else self.old) }
     {
-        self.awaited = Awaited::Fpdu;
-        self.at += len;
-        self.place += len as u64;
+        let (_, waiting) = self.bytes.as_slice().split_at(self.at);
+        if let Some(len) = whole_frame(self.awaited, waiting) {
+            self.awaited = Awaited::Fpdu;
+            self.at += len;
+            self.place += len as u64;
+        }
     }
 }
