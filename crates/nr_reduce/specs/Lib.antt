@@ -31,6 +31,7 @@ pub mod ServerReads
 pub mod ServerMessages
 pub mod ServerFrames
 pub mod Server
+pub mod CompactServer
 pub mod Run
 pub mod Credits
 pub mod SubmitAnswer
