@@ -1,0 +1,2 @@
+cd /work/w/world_script; rm -rf crates/nr_script/{src,specs,proofs}; cp -r /work/w/world/crates/nr_script/{src,specs,proofs} crates/nr_script/
+(time nice -n 5 python3 docs/maintaining/over_sources.py nr_script --only nr_script::reading::first_line --only nr_script::reading::opening_from --only nr_script::reading::read_script --allow-holes) > /tmp/world/script.log 2>&1; echo done >> /tmp/world/script.log

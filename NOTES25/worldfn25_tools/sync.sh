@@ -1,0 +1,1 @@
+python3 /tmp/worldfn/sync.py
