@@ -170,7 +170,7 @@ impl<I: Source, O: Sink> Calls for Link<I, O> {
         self.requester.forget(ticket);
     }
 
-    fn has_credit(&self) -> bool {
+    fn has_credit(&mut self) -> bool {
         self.requester.may_submit()
     }
 }
