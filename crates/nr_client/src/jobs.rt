@@ -47,7 +47,7 @@ pub(crate) struct PieceRead {
 
 /// A job: a pass of the shared requester, where its pieces begin, and those that it has read.
 #[derive(Drop)]
-pub(crate) struct ReadJob<I: LinkSource, O: LinkSink, C: CallRule> {
+pub(crate) struct ReadJob<I: LinkSource + Drop, O: LinkSink + Drop, C: CallRule> {
     pub(crate) pass: Pass<I, O, C>,
     pub(crate) offsets: Vec<u64>,
     pub(crate) fetched: Vec<PieceRead>,
