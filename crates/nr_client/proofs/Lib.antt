@@ -1,5 +1,7 @@
 pub mod Answering
 pub mod AskedReads
+pub mod CallerSteps
+pub mod CallerTickets
 pub mod CallsMade
 pub mod FileEnds
 pub mod FilePieces

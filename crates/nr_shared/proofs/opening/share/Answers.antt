@@ -1,4 +1,5 @@
 use Rattle.std.proofs.Common.{◌≡◌, ℕ, List, [], Option, Some, length, refl, sym, ap, subst, ◌∙◌}
+use Rattle.std.specs.String.{string_bytes}
 use Rattle.nr_turnstile.specs.Rule.{places}
 use Rattle.nr_turnstile.specs.Passes.{home_of, mine_of, seen_by}
 use Rattle.nr_shared.specs.declared.entry.Entry.{Entry}
@@ -28,7 +29,7 @@ share_reader-requires-clause-feeds g c =
     let begun : IsBegun g.I.LinkSource.link g.D.Dialer.ended history c.of-first_source.result.value c.of-first_dialer.result.value =
     subst (λ (d : g.row.D.Denot). IsBegun g.I.LinkSource.link g.D.Dialer.ended history c.of-first_source.result.value d) (sym c.of-first_dialer.ensures)
     (subst (λ (i : g.row.I.Denot). IsBegun g.I.LinkSource.link g.D.Dialer.ended history i c.args.dialer) (sym c.of-first_source.ensures) c.requires.begun) in
-    first_reader g.I.LinkSource.link g.I.Source.left g.I.Source.given g.I.Source.faults g.D.Dialer.ended g.D.Dialer.faults _ _ history (ap home_of (sym c.of-first.ensures)) (ap (λ x. x.1) u.1 ∙ m.0.1, ap (λ x. x.0.stage) u.1 ∙ m.0.2)
+    first_reader g.I.LinkSource.link g.I.Source.left g.I.Source.given g.I.Source.faults g.D.Dialer.asked g.D.Dialer.ended g.D.Dialer.faults _ _ history (ap (λ t. string_bytes t) (sym c.of-first_addr.ensures)) (ap home_of (sym c.of-first.ensures)) (ap (λ x. x.1) u.1 ∙ m.0.1, ap (λ x. x.0.stage) u.1 ∙ m.0.2)
     (first_lies history p seen mine) (first_feeds g.I.LinkSource.link g.D.Dialer.ended history c.args.source c.args.dialer p c.requires.begun seen mine) seen begun
     (ap Some (sym c.of-first_source.ensures)) (sym c.of-first_dialer.ensures) refl c.requires.read (sym c.in-Ok.buf.ok.0 ∙ c.in-Ok.ensures.len)
 
@@ -40,7 +41,7 @@ returns-in-Ok-share_reader-clause-rests g c =
     record {
       main = n.0;
       source = t.0;
-      initial_source = record { source = c.of-first_source.result; dialer = c.of-first_dialer.result; pass = c.of-first.result; read = c.args.read };
+      initial_source = record { source = c.of-first_source.result; dialer = c.of-first_dialer.result; addr = c.of-first_addr.result; pass = c.of-first.result; read = c.args.read };
       has_seen = t.1;
       home = ap home_of c.of-first.ensures ∙ (u.0.0 ∙ m.0.0);
       caller = new_caller c.split-caller.result (ap (λ w. w.mine) n.1);
@@ -48,4 +49,4 @@ returns-in-Ok-share_reader-clause-rests g c =
     }
 
 pub returns-in-Ok-share_reader-clause-source : goal.returns-in-Ok-share_reader-clause-source
-returns-in-Ok-share_reader-clause-source g c = (record { source = c.of-first_source.result; dialer = c.of-first_dialer.result; pass = c.of-first.result; read = c.args.read }, (c.in-Ok-share_reader.ensures.ok.1, (c.of-first_source.ensures, (c.of-first_dialer.ensures, refl))))
+returns-in-Ok-share_reader-clause-source g c = (record { source = c.of-first_source.result; dialer = c.of-first_dialer.result; addr = c.of-first_addr.result; pass = c.of-first.result; read = c.args.read }, (c.in-Ok-share_reader.ensures.ok.1, (c.of-first_source.ensures, (c.of-first_dialer.ensures, (ap (λ t. string_bytes t) c.of-first_addr.ensures, refl)))))
