@@ -1,0 +1,109 @@
+//! A command of a client with a number, from its words to its end.
+
+ghost use Rattle.std.specs.Prelude.{◌≡◌, ◌<◌, ◌≤◌};
+ghost use Rattle.nr_outside.specs.Streams.{sink_at, source_at};
+ghost use Rattle.nr_words.specs.Lines.{plain_numbered};
+ghost use Rattle.nr_words.specs.Limits.{tries_max};
+ghost use Rattle.nr_client.specs.Dialing.{dialer_at};
+ghost use Rattle.nr_commands.specs.NumberedRuns.{RunsNumbered};
+
+use crate::lent_dialer::{BorrowName, LentDialer};
+use crate::run::{print, text_of};
+use nr_client::{ClientEnd, Session, SharedLink};
+use nr_links::{Dialer, LinkSink, LinkSource};
+use nr_outside::{Sink, Source};
+use nr_words::NumberedClient;
+use std::alloc::Global;
+use std::marker::Brand;
+use std::sync::Wait;
+
+/// Runs a command of a client with a number over links of a dialer, which is behind the borrow of this name.
+fn run_lent<
+    N: BorrowName,
+    R: Wait,
+    P: LinkSource + Drop,
+    Q: LinkSink + Drop,
+    D: Dialer<Source = P, Sink = Q>,
+    I: Source,
+    K: Sink,
+>(
+    rt: &R,
+    alloc: Global,
+    numbered: &NumberedClient<&str>,
+    dial: &mut D,
+    input: &mut I,
+    out: &mut K,
+) -> Result<(), ClientEnd>
+    requires name { dial.entry.ghost_name ≡ N.name }
+    requires numbers { (0 < numbered.now.number) × (numbered.now.tries ≤ tries_max) }
+    ensures { RunsNumbered (plain_numbered numbered.now)
+        (dialer_at (D.asked dial.old) (D.ended dial.old) (D.lost dial.old) (D.faults dial.old))
+        (dialer_at (D.asked dial.new) (D.ended dial.new) (D.lost dial.new) (D.faults dial.new))
+        (source_at (I.left input.old) (I.given input.old) (I.faults input.old)) (source_at (I.left input.new) (I.given input.new) (I.faults input.new))
+        (sink_at (K.taken out.old) (K.faults out.old)) (sink_at (K.taken out.new) (K.faults out.new)) result }
+{
+    let client = &numbered.client;
+    let opened = Session::<SharedLink<'_, R, P, Q, LentDialer<'_, D, N>>>::open_numbered(
+        rt,
+        alloc,
+        LentDialer::new(dial),
+        client.addr,
+        client.uid,
+        client.gid,
+        numbered.number,
+        u32::from(numbered.tries),
+        client.units,
+        client.invalidates,
+    );
+    let mut session = match opened {
+        Ok(session) => session,
+        Err((end, lent)) => {
+            let _dial = lent.into_inner();
+            return Err(end);
+        }
+    };
+    let text = text_of(
+        alloc,
+        &mut session,
+        client.export,
+        &client.action,
+        input,
+        out,
+    );
+    let _dial = session.close().into_inner();
+    print(out, text)
+}
+
+/// Runs a command of a client with a number as [`run_command`](crate::run_command) runs one without, but for its link. If that is lost, it is
+/// hung up and the next one is dialled to the same address, at most as often as the tries say, and the calls that weren't answered are sent again under
+/// their xids: a server that keeps replies by number and xid executes each of them at most once. The number is for this run alone: used again,
+/// it gets the replies of the first run.
+///
+/// # Errors
+///
+/// [`ClientEnd`] says why the command was not done: `Link(Tries)` if the link was lost once more after all tries; `DialFault`, or `Link(DialFault)`
+/// for a later link, if a dial failed; `InputFault` if a read of `input` failed, `OutputFault` if a write to `out` did.
+pub fn run_numbered<
+    R: Wait,
+    P: LinkSource + Drop,
+    Q: LinkSink + Drop,
+    D: Dialer<Source = P, Sink = Q>,
+    N: Source,
+    K: Sink,
+>(
+    rt: &R,
+    alloc: Global,
+    numbered: &NumberedClient<&str>,
+    dial: &mut D,
+    input: &mut N,
+    out: &mut K,
+) -> Result<(), ClientEnd>
+    requires { (0 < numbered.now.number) × (numbered.now.tries ≤ tries_max) }
+    ensures { RunsNumbered (plain_numbered numbered.now)
+        (dialer_at (D.asked dial.old) (D.ended dial.old) (D.lost dial.old) (D.faults dial.old))
+        (dialer_at (D.asked dial.new) (D.ended dial.new) (D.lost dial.new) (D.faults dial.new))
+        (source_at (N.left input.old) (N.given input.old) (N.faults input.old)) (source_at (N.left input.new) (N.given input.new) (N.faults input.new))
+        (sink_at (K.taken out.old) (K.faults out.old)) (sink_at (K.taken out.new) (K.faults out.new)) result }
+{
+    run_lent::<Brand, R, P, Q, D, N, K>(rt, alloc, numbered, dial, input, out)
+}
