@@ -9,9 +9,9 @@ invariant_of-self g c =
     rests_on g.D.Dialer.ended c.self.inside.shared c.self.inside.pass c.has_credit.new.pass c.self.invariant c.has_credit.ensures.rests c.has_credit.ensures.source c.has_credit.ensures.added.seen
 
 pub returns-clause-looks : goal.returns-clause-looks
-returns-clause-looks g c = rw (sym c.self.view_is) (looked_by c.self.inside.pass.main c.has_credit.new.pass.main c.has_credit.ensures.added c.has_credit.ensures.keeps c.has_credit.ensures.rests.law)
+returns-clause-looks g c = rw (sym c.self.view_is) (looked_by g.I.LinkSource.link g.I.Source.left g.I.Source.given g.I.Source.faults g.D.Dialer.asked g.D.Dialer.ended g.D.Dialer.faults c.self.inside.pass c.has_credit.new.pass c.has_credit.ensures.added c.has_credit.ensures.keeps c.has_credit.ensures.source c.has_credit.ensures.rests.law)
 
 pub returns-clause-tickets : goal.returns-clause-tickets
 returns-clause-tickets g c =
-    rw (sym c.self.view_is) (tickets_of_look (caller_view c.self.inside.pass.main) (caller_view c.has_credit.new.pass.main) (known c.self.inside.shared c.self.inside.pass c.self.invariant.rests)
-    (looked_by c.self.inside.pass.main c.has_credit.new.pass.main c.has_credit.ensures.added c.has_credit.ensures.keeps c.has_credit.ensures.rests.law))
+    rw (sym c.self.view_is) (tickets_of_look (caller_view g.I.LinkSource.link g.I.Source.left g.I.Source.given g.I.Source.faults g.D.Dialer.asked g.D.Dialer.ended g.D.Dialer.faults c.self.inside.pass) (caller_view g.I.LinkSource.link g.I.Source.left g.I.Source.given g.I.Source.faults g.D.Dialer.asked g.D.Dialer.ended g.D.Dialer.faults c.has_credit.new.pass) (known g.I.LinkSource.link g.I.Source.left g.I.Source.given g.I.Source.faults g.D.Dialer.asked g.D.Dialer.ended g.D.Dialer.faults c.self.inside.shared c.self.inside.pass c.self.invariant.rests)
+    (looked_by g.I.LinkSource.link g.I.Source.left g.I.Source.given g.I.Source.faults g.D.Dialer.asked g.D.Dialer.ended g.D.Dialer.faults c.self.inside.pass c.has_credit.new.pass c.has_credit.ensures.added c.has_credit.ensures.keeps c.has_credit.ensures.source c.has_credit.ensures.rests.law))
