@@ -1,27 +1,39 @@
 -- What nr_shared says of two passes, said of what their caller knows.
-use Rattle.std.proofs.Common.{◌≡◌, ◌⊎◌, ℕ, Bool, true, List, [], ◌∷◌, ◌++◌, Result, Ok, Err, IfOk, IfErr, OnErr, is_some, inl, inr}
+use Rattle.std.proofs.Common.{◌≡◌, ◌⊎◌, ℕ, true, List, [], ◌∷◌, ◌++◌, map, Option, Result, Ok, Err, is_some, inl, inr, refl, sym, ap, ◌∙◌}
+use Rattle.nr_links.specs.Links.{LinkLog}
 use Rattle.nr_reduce.specs.declared.call.Call.{Call}
 use Rattle.nr_reduce.specs.declared.call.Form.TheVariants as forms
 use Rattle.nr_requester.specs.declared.taking.Done.{Done}
-use Rattle.nr_turnstile.specs.declared.turnstile.Pass.{Pass}
 use Rattle.nr_turnstile.specs.Passes.{mine_of, seen_by}
-use Rattle.nr_turnstile.specs.Rule.{Lies}
+use Rattle.nr_turnstile.specs.Rule.{Begins, Lies}
+use Rattle.nr_shared.specs.declared.call_rule.AnyCall.{AnyCall}
 use Rattle.nr_shared.specs.declared.call_end.CallEnd.{CallEnd}
 use Rattle.nr_shared.specs.declared.entry.Entry.{Entry}
 use Rattle.nr_shared.specs.declared.entry.Entry.TheVariants as entries
-use Rattle.nr_shared.specs.declared.requester_with_sink.RequesterWithSink.{RequesterWithSink}
+use Rattle.nr_shared.specs.declared.entry.InitialState.{InitialState}
+use Rattle.nr_shared.specs.declared.shared.Pass.{Pass}
+use Rattle.nr_shared.specs.declared.shared.SharedRequester.{SharedRequester}
+use Rattle.nr_shared.specs.declared.source_reader.InitialSource.{InitialSource}
 use Rattle.nr_shared.specs.Adding.{Adds}
 use Rattle.nr_shared.specs.Callers.{HasOpenCall, KeepsLaw, KeepsOpen}
-use Rattle.nr_shared.specs.Waiting.{ForgetsCall, GivesUp, NoAnswer, OwnAnswer, Sends, SendsNone, Waits}
-use Rattle.nr_client.specs.CallerViews.{AddsTo, AnswersBy, CompletesBy, ForgetsBy, ForgetsCallBy, ForgottenBy, GivesUpBy, LooksBy, RefusesBy, SubmitsBy, caller_view, open_call_of}
-use Rattle.nr_client.proofs.CallerTickets.{open_at}
+use Rattle.nr_shared.specs.Histories.{initial_of, tries_in, tries_of}
+use Rattle.nr_shared.specs.Sharing.{SharedRests}
+use Rattle.nr_shared.specs.Waiting.{Calls, ForgetsCall, GivesUp, NoAnswer, OwnAnswer, Sends, SendsNone, Submits, Waits}
+use Rattle.nr_shared.proofs.Histories.{initial_more}
+use Rattle.nr_client.specs.CallerViews.{AddsTo, AnswersBy, CallerView, CompletesBy, ForgetsBy, ForgetsCallBy, ForgottenBy, GivesUpBy, LooksBy, RefusesBy, SubmitsBy, caller_view, first_link, open_call_of, shared_relations}
+use Rattle.nr_client.specs.Relations.{ClosesTicketOver, KeepsTicketsOver}
+use Rattle.nr_client.specs.SharedParts.{IsAtRest}
+use Rattle.nr_client.proofs.CallerTickets.{IsKnown, open_at, ticket_of_completed, ticket_of_forgotten, tickets_of_answer, tickets_of_given_up, tickets_of_refused}
 
-module _ {O C : Type 0} where
-  adds_to : (p q : Pass (RequesterWithSink O C) Entry) (es : List Entry) → Adds p q es → AddsTo (caller_view p) (caller_view q) es
-  adds_to p q es a = record { seen = a.seen; places = a.places; mine = a.mine; rising = a.rising; at = a.at; new = a.new }
+module _ {I O C D : Type 0} (link : I → ℕ) (left given : I → Option (List ℕ)) (faults : I → ℕ) (asked : D → Option (List (List ℕ))) (ended : D → Option LinkLog) (dialer_faults : D → ℕ) where
+  view : Pass I O C D → CallerView
+  view p = caller_view link left given faults asked ended dialer_faults p
 
-  pub answered_by : (p q : Pass (RequesterWithSink O C) Entry) (call : Call) (done : Done) → OwnAnswer p q call forms.Auto done → KeepsLaw (seen_by q) → AnswersBy (caller_view p) (caller_view q) call done.outcome
-  answered_by p q call done own law = record {
+  adds_to : (p q : Pass I O C D) (es : List Entry) → Adds p.main q.main es → seen_by q.source ≡ seen_by p.source → AddsTo (view p) (view q) es
+  adds_to p q es a same = record { seen = a.seen; places = a.places; mine = a.mine; rising = a.rising; at = a.at; new = a.new; same_firsts = ap (λ (bs : List (InitialSource I O C D)). map (first_link link left given faults asked ended dialer_faults) bs) same }
+
+  pub answered_by : (p q : Pass I O C D) (call : Call) (done : Done) → OwnAnswer p.main q.main call forms.Auto done → seen_by q.source ≡ seen_by p.source → KeepsLaw (seen_by q.main) → AnswersBy (view p) (view q) call done.outcome
+  answered_by p q call done own same law = record {
     writes_before = own.writes_before;
     are_writes_before = own.are_writes_before;
     writes_after = own.writes_after;
@@ -29,7 +41,7 @@ module _ {O C : Type 0} where
     xid = own.xid;
     at = own.at;
     stands = own.stands;
-    adds = adds_to p q ((own.writes_before ++ entries.Submit call forms.Auto own.xid ∷ own.writes_after) ++ entries.Done own.xid done.outcome own.at ∷ []) own.adds;
+    adds = adds_to p q ((own.writes_before ++ entries.Submit call forms.Auto own.xid ∷ own.writes_after) ++ entries.Done own.xid done.outcome own.at ∷ []) own.adds same;
     new = own.new;
     own = own.own;
     keeps = own.keeps;
@@ -38,19 +50,19 @@ module _ {O C : Type 0} where
     law = law;
   }
 
-  pub refused_by : (p q : Pass (RequesterWithSink O C) Entry) (call : Call) (end : CallEnd) → SendsNone p q call forms.Auto end → KeepsLaw (seen_by q) → RefusesBy (caller_view p) (caller_view q) call end
-  refused_by p q call end none law = record {
+  pub refused_by : (p q : Pass I O C D) (call : Call) (end : CallEnd) → SendsNone p.main q.main call forms.Auto end → seen_by q.source ≡ seen_by p.source → KeepsLaw (seen_by q.main) → RefusesBy (view p) (view q) call end
+  refused_by p q call end none same law = record {
     writes_before = none.writes_before;
     are_writes_before = none.are_writes_before;
-    adds = adds_to p q none.writes_before none.adds;
+    adds = adds_to p q none.writes_before none.adds same;
     keeps = none.keeps;
     cause = none.cause;
     written = none.written;
     law = law;
   }
 
-  not_answered : (p q : Pass (RequesterWithSink O C) Entry) (call : Call) (end : CallEnd) → NoAnswer p q call forms.Auto end → KeepsLaw (seen_by q) → ForgottenBy (caller_view p) (caller_view q) call end
-  not_answered p q call end none law = record {
+  not_answered : (p q : Pass I O C D) (call : Call) (end : CallEnd) → NoAnswer p.main q.main call forms.Auto end → seen_by q.source ≡ seen_by p.source → KeepsLaw (seen_by q.main) → ForgottenBy (view p) (view q) call end
+  not_answered p q call end none same law = record {
     writes_before = none.writes_before;
     are_writes_before = none.are_writes_before;
     writes_after = none.writes_after;
@@ -58,7 +70,7 @@ module _ {O C : Type 0} where
     xid = none.xid;
     at = none.at;
     stands = none.stands;
-    adds = adds_to p q ((none.writes_before ++ entries.Submit call forms.Auto none.xid ∷ none.writes_after) ++ entries.Forget none.xid none.at ∷ []) none.adds;
+    adds = adds_to p q ((none.writes_before ++ entries.Submit call forms.Auto none.xid ∷ none.writes_after) ++ entries.Forget none.xid none.at ∷ []) none.adds same;
     new = none.new;
     own = none.own;
     keeps = none.keeps;
@@ -70,18 +82,18 @@ module _ {O C : Type 0} where
     law = law;
   }
 
-  pub given_up_by : (p q : Pass (RequesterWithSink O C) Entry) (call : Call) (end : CallEnd) → SendsNone p q call forms.Auto end ⊎ NoAnswer p q call forms.Auto end → KeepsLaw (seen_by q)
-      → GivesUpBy (caller_view p) (caller_view q) call end
-  given_up_by p q call end (inl none) law = inl (refused_by p q call end none law)
-  given_up_by p q call end (inr none) law = inr (not_answered p q call end none law)
+  pub given_up_by : (p q : Pass I O C D) (call : Call) (end : CallEnd) → SendsNone p.main q.main call forms.Auto end ⊎ NoAnswer p.main q.main call forms.Auto end → seen_by q.source ≡ seen_by p.source → KeepsLaw (seen_by q.main)
+      → GivesUpBy (view p) (view q) call end
+  given_up_by p q call end (inl none) same law = inl (refused_by p q call end none same law)
+  given_up_by p q call end (inr none) same law = inr (not_answered p q call end none same law)
 
-  pub submitted_by : (p q : Pass (RequesterWithSink O C) Entry) (call : Call) (xid : ℕ) → Sends p q call forms.Auto xid → KeepsLaw (seen_by q) → SubmitsBy (caller_view p) (caller_view q) call xid
-  submitted_by p q call xid sends law = record {
+  pub submitted_by : (p q : Pass I O C D) (call : Call) (xid : ℕ) → Sends p.main q.main call forms.Auto xid → seen_by q.source ≡ seen_by p.source → KeepsLaw (seen_by q.main) → SubmitsBy (view p) (view q) call xid
+  submitted_by p q call xid sends same law = record {
     writes_before = sends.writes_before;
     are_writes_before = sends.are_writes_before;
     writes_after = sends.writes_after;
     are_writes_after = sends.are_writes_after;
-    adds = adds_to p q (sends.writes_before ++ entries.Submit call forms.Auto xid ∷ sends.writes_after) sends.adds;
+    adds = adds_to p q (sends.writes_before ++ entries.Submit call forms.Auto xid ∷ sends.writes_after) sends.adds same;
     keeps = sends.keeps;
     at = sends.at;
     stands = sends.stands;
@@ -93,14 +105,14 @@ module _ {O C : Type 0} where
 
   -- ---- Of the open call of an xid
 
-  pub has_open_call : (p : Pass (RequesterWithSink O C) Entry) (xid : ℕ) → Lies (seen_by p) (mine_of p) → is_some (open_call_of (caller_view p) xid) ≡ true → HasOpenCall p xid
-  has_open_call p xid lies is = let (k, (call, has)) = open_at (caller_view p) xid is in
+  pub has_open_call : (p : Pass I O C D) (xid : ℕ) → Lies (seen_by p.main) (mine_of p.main) → is_some (open_call_of (view p) xid) ≡ true → HasOpenCall p.main xid
+  has_open_call p xid lies is = let (k, (call, has)) = open_at (view p) xid is in
       record { at = k; call = call; is_call = has.stands; stays = has.open_place; lies = lies }
 
-  pub completed_by : (p q : Pass (RequesterWithSink O C) Entry) (xid : ℕ) (done : Done) → is_some (open_call_of (caller_view p) xid) ≡ true → Waits p q xid (Ok done) → KeepsLaw (seen_by q)
-      → CompletesBy xid done.outcome (caller_view p) (caller_view q)
-  completed_by p q xid done is waits law =
-      let (k, (call, has)) = open_at (caller_view p) xid is in
+  pub completed_by : (p q : Pass I O C D) (xid : ℕ) (done : Done) → is_some (open_call_of (view p) xid) ≡ true → Waits p.main q.main xid (Ok done) → seen_by q.source ≡ seen_by p.source → KeepsLaw (seen_by q.main)
+      → CompletesBy xid done.outcome (view p) (view q)
+  completed_by p q xid done is waits same law =
+      let (k, (call, has)) = open_at (view p) xid is in
       let w = waits k call has.stands has.open_place in
       record {
         at = k;
@@ -108,7 +120,7 @@ module _ {O C : Type 0} where
         had = has;
         writes = w.writes;
         are_writes = w.are_writes;
-        adds = adds_to p q (w.writes ++ entries.Done xid done.outcome k ∷ []) w.adds;
+        adds = adds_to p q (w.writes ++ entries.Done xid done.outcome k ∷ []) w.adds same;
         keeps = w.keeps;
         before = w.before;
         seen = w.seen;
@@ -119,10 +131,10 @@ module _ {O C : Type 0} where
         law = law;
       }
 
-  pub forgotten_by : (p q : Pass (RequesterWithSink O C) Entry) (xid : ℕ) (end : CallEnd) → is_some (open_call_of (caller_view p) xid) ≡ true → GivesUp p q xid end → KeepsLaw (seen_by q)
-      → ForgetsBy xid end (caller_view p) (caller_view q)
-  forgotten_by p q xid end is gives law =
-      let (k, (call, has)) = open_at (caller_view p) xid is in
+  pub forgotten_by : (p q : Pass I O C D) (xid : ℕ) (end : CallEnd) → is_some (open_call_of (view p) xid) ≡ true → GivesUp p.main q.main xid end → seen_by q.source ≡ seen_by p.source → KeepsLaw (seen_by q.main)
+      → ForgetsBy xid end (view p) (view q)
+  forgotten_by p q xid end is gives same law =
+      let (k, (call, has)) = open_at (view p) xid is in
       let w = gives k call has.stands has.open_place in
       record {
         at = k;
@@ -130,7 +142,7 @@ module _ {O C : Type 0} where
         had = has;
         writes = w.writes;
         are_writes = w.are_writes;
-        adds = adds_to p q (w.writes ++ entries.Forget xid k ∷ []) w.adds;
+        adds = adds_to p q (w.writes ++ entries.Forget xid k ∷ []) w.adds same;
         keeps = w.keeps;
         before = w.before;
         seen = w.seen;
@@ -140,11 +152,55 @@ module _ {O C : Type 0} where
         law = law;
       }
 
-  pub dropped_by : (p q : Pass (RequesterWithSink O C) Entry) (xid : ℕ) → is_some (open_call_of (caller_view p) xid) ≡ true → ForgetsCall p q xid → KeepsLaw (seen_by q) → ForgetsCallBy xid (caller_view p) (caller_view q)
-  dropped_by p q xid is forgets law =
-      let (k, (call, has)) = open_at (caller_view p) xid is in
+  pub dropped_by : (p q : Pass I O C D) (xid : ℕ) → is_some (open_call_of (view p) xid) ≡ true → ForgetsCall p.main q.main xid → seen_by q.source ≡ seen_by p.source → KeepsLaw (seen_by q.main) → ForgetsCallBy xid (view p) (view q)
+  dropped_by p q xid is forgets same law =
+      let (k, (call, has)) = open_at (view p) xid is in
       let w = forgets k call has.stands has.open_place in
-      record { at = k; call = call; had = has; adds = adds_to p q (entries.Forget xid k ∷ []) w.adds; keeps = w.keeps; law = law }
+      record { at = k; call = call; had = has; adds = adds_to p q (entries.Forget xid k ∷ []) w.adds same; keeps = w.keeps; law = law }
 
-  pub looked_by : (p q : Pass (RequesterWithSink O C) Entry) → Adds p q [] → KeepsOpen p q → KeepsLaw (seen_by q) → LooksBy (caller_view p) (caller_view q)
-  looked_by p q added keeps law = record { adds = adds_to p q [] added; keeps = keeps; law = law }
+  pub looked_by : (p q : Pass I O C D) → Adds p.main q.main [] → KeepsOpen p.main q.main → seen_by q.source ≡ seen_by p.source → KeepsLaw (seen_by q.main) → LooksBy (view p) (view q)
+  looked_by p q added keeps same law = record { adds = adds_to p q [] added same; keeps = keeps; law = law }
+
+  -- ---- The tickets, and what the pass has seen
+
+  pub tickets_of_call : (p q : Pass I O C D) (call : Call) (result : Result Done CallEnd) → IsKnown (view p) → Calls p.main q.main call forms.Auto result → seen_by q.source ≡ seen_by p.source → KeepsLaw (seen_by q.main)
+      → KeepsTicketsOver shared_relations (view p) (view q)
+  tickets_of_call p q call (Ok done) known own same law = tickets_of_answer (view p) (view q) call done.outcome known (answered_by p q call done own same law)
+  tickets_of_call p q call (Err end) known none same law = tickets_of_given_up (view p) (view q) call end known (given_up_by p q call end none same law)
+
+  pub ticket_of_wait : (p q : Pass I O C D) (xid : ℕ) (result : Result Done CallEnd) → IsKnown (view p) → is_some (open_call_of (view p) xid) ≡ true → Waits p.main q.main xid result → seen_by q.source ≡ seen_by p.source → KeepsLaw (seen_by q.main)
+      → ClosesTicketOver shared_relations xid (view p) (view q)
+  ticket_of_wait p q xid (Ok done) known is waits same law = ticket_of_completed (view p) (view q) xid done.outcome known (completed_by p q xid done is waits same law)
+  ticket_of_wait p q xid (Err end) known is gives same law = ticket_of_forgotten (view p) (view q) xid end known (forgotten_by p q xid end is gives same law)
+
+  pub seen_by_submit : (p q : Pass I O C D) (call : Call) (result : Result ℕ CallEnd) → Submits p.main q.main call forms.Auto result → Begins (seen_by p.main) (seen_by q.main)
+  seen_by_submit p q call (Ok xid) sends = sends.adds.seen
+  seen_by_submit p q call (Err end) none = none.adds.seen
+
+  pub seen_by_call : (p q : Pass I O C D) (call : Call) (result : Result Done CallEnd) → Calls p.main q.main call forms.Auto result → Begins (seen_by p.main) (seen_by q.main)
+  seen_by_call p q call (Ok done) own = own.adds.seen
+  seen_by_call p q call (Err end) (inl none) = none.adds.seen
+  seen_by_call p q call (Err end) (inr none) = none.adds.seen
+
+  pub seen_by_wait : (p q : Pass I O C D) (xid : ℕ) (result : Result Done CallEnd) → is_some (open_call_of (view p) xid) ≡ true → Waits p.main q.main xid result → Begins (seen_by p.main) (seen_by q.main)
+  seen_by_wait p q xid (Ok done) is waits = let (k, (call, has)) = open_at (view p) xid is in (waits k call has.stands has.open_place).adds.seen
+  seen_by_wait p q xid (Err end) is gives = let (k, (call, has)) = open_at (view p) xid is in (gives k call has.stands has.open_place).adds.seen
+
+  pub seen_by_forget : (p q : Pass I O C D) (xid : ℕ) → is_some (open_call_of (view p) xid) ≡ true → ForgetsCall p.main q.main xid → Begins (seen_by p.main) (seen_by q.main)
+  seen_by_forget p q xid is forgets = let (k, (call, has)) = open_at (view p) xid is in (forgets k call has.stands has.open_place).adds.seen
+
+-- ---- The link between two calls
+
+module _ {I O D : Type 0} (link : I → ℕ) (left given : I → Option (List ℕ)) (faults : I → ℕ) (asked : D → Option (List (List ℕ))) (ended : D → Option LinkLog) (dialer_faults : D → ℕ) where
+  pub known : (s : SharedRequester I O AnyCall D) (p : Pass I O AnyCall D) → SharedRests s p → IsKnown (caller_view link left given faults asked ended dialer_faults p)
+  known s p r = record { lies = r.caller.lies; law = r.law }
+
+module _ {I O D : Type 0} where
+  pub rests_on : (ended : D → Option LinkLog) (s : SharedRequester I O AnyCall D) (p q : Pass I O AnyCall D) → IsAtRest ended s p → SharedRests s q → seen_by q.source ≡ seen_by p.source → Begins (seen_by p.main) (seen_by q.main) → IsAtRest ended s q
+  rests_on ended s p q r rests source seen = record {
+    rests = rests;
+    tries = ap (λ (l : List Entry). is_some (tries_of l)) seen.1 ∙ (ap (λ (o : Option InitialState). is_some (tries_in o)) (initial_more (seen_by p.main) seen.0 r.rests.law.initial r.rests.law.is_initial ∙ sym r.rests.law.is_initial) ∙ r.tries);
+    first = r.first;
+    source = source ∙ r.source;
+    open_link = r.open_link;
+  }

@@ -1,35 +1,64 @@
 -- What a caller of a shared requester knows, and what its calls make of that.
-use Rattle.std.specs.Prelude.{◌≡◌, ◌≢◌, ◌≤◌, ◌⊎◌, ◌==◌, ◌||◌, ⊤, ℕ, Bool, true, false, if◌then◌else◌, List, [], ◌∷◌, ◌++◌, length, Option, None, Some}
+use Rattle.std.specs.Prelude.{◌≡◌, ◌≢◌, ◌≤◌, ◌⊎◌, ◌==◌, ◌||◌, ⊤, ℕ, Bool, true, false, if◌then◌else◌, List, [], ◌∷◌, ◌++◌, length, map, Option, None, Some}
 use Rattle.std.specs.List.{AllByRecursion}
 use mathlib.Core.Option.{some, none}
 use lib.ListN.{get_elem?}
 use Rattle.nr_reduce.specs.declared.call.Call.{Call}
 use Rattle.nr_reduce.specs.declared.call.Form.TheVariants as forms
 use Rattle.nr_reduce.specs.declared.call.Outcome.{Outcome}
-use Rattle.nr_turnstile.specs.declared.turnstile.Pass.{Pass}
+use Rattle.nr_links.specs.Links.{LinkLog}
 use Rattle.nr_turnstile.specs.Passes.{mine_of, seen_by}
 use Rattle.nr_turnstile.specs.Rule.{Begins, IsIn, IsOpen, Rising}
 use Rattle.nr_shared.specs.declared.call_end.CallEnd.{CallEnd}
 use Rattle.nr_shared.specs.declared.entry.Entry.{Entry}
 use Rattle.nr_shared.specs.declared.entry.Entry.TheVariants as entries
-use Rattle.nr_shared.specs.declared.requester_with_sink.RequesterWithSink.{RequesterWithSink}
+use Rattle.nr_shared.specs.declared.shared.Pass.{Pass}
+use Rattle.nr_shared.specs.declared.source_reader.InitialSource.{InitialSource}
 use Rattle.nr_shared.specs.Adding.{AreAt}
 use Rattle.nr_shared.specs.Callers.{KeepsLaw}
 use Rattle.nr_shared.specs.Draining.{AreWrites}
 use Rattle.nr_shared.specs.Ending.{IsCause, LinkEnded}
+use Rattle.nr_shared.specs.Feeding.{address_of}
 use Rattle.nr_shared.specs.HandedBack.{IsUnanswered}
 use Rattle.nr_shared.specs.Histories.{IsCallAt, closes_of, submitted_call}
 use Rattle.nr_shared.specs.Output.{HasWrittenOutput}
 use Rattle.nr_shared.specs.Sharing.{SaysCredit, SaysCreditOutOfMemory}
 use Rattle.nr_client.specs.Relations.{CallRelations}
 
--- the beginning of the history that its pass has seen, and the places of its own entries
+-- what is known of a source and a dialer when the requester was shared; the address that is dialled; and how many bytes were read of the source before
+pub record FirstLink : Type 0 where
+  pub link : ℕ
+  pub left : Option (List ℕ)
+  pub given : Option (List ℕ)
+  pub faults : ℕ
+  pub asked : Option (List (List ℕ))
+  pub ended : Option LinkLog
+  pub dialer_faults : ℕ
+  pub addr : List ℕ
+  pub read : ℕ
+
+-- the beginning of the history that its pass has seen, the places of its own entries, and the link when the requester was shared
 pub record CallerView : Type 0 where
   pub seen : List Entry
   pub mine : List ℕ
+  pub firsts : List FirstLink
 
-abbrev pub caller_view : {O C : Type 0} → Pass (RequesterWithSink O C) Entry → CallerView
-caller_view p = record { seen = seen_by p; mine = mine_of p }
+module _ {I O C D : Type 0} (link : I → ℕ) (left given : I → Option (List ℕ)) (faults : I → ℕ) (asked : D → Option (List (List ℕ))) (ended : D → Option LinkLog) (dialer_faults : D → ℕ) where
+  abbrev pub first_link : InitialSource I O C D → FirstLink
+  first_link b = record {
+    link = link b.source.value;
+    left = left b.source.value;
+    given = given b.source.value;
+    faults = faults b.source.value;
+    asked = asked b.dialer.value;
+    ended = ended b.dialer.value;
+    dialer_faults = dialer_faults b.dialer.value;
+    addr = address_of b;
+    read = b.read;
+  }
+
+  abbrev pub caller_view : Pass I O C D → CallerView
+  caller_view p = record { seen = seen_by p.main; mine = mine_of p.main; firsts = map first_link (seen_by p.source) }
 
 -- Between two moments the caller added these entries, in this order, and no others. It had seen none of them before.
 pub record AddsTo (v w : CallerView) (es : List Entry) : Type 0 where
@@ -39,6 +68,7 @@ pub record AddsTo (v w : CallerView) (es : List Entry) : Type 0 where
   pub rising : Rising places
   pub at : AreAt w.seen places es
   pub new : AllByRecursion (λ k. length v.seen ≤ k) places
+  pub same_firsts : w.firsts ≡ v.firsts
 
 -- ---- Its open calls
 

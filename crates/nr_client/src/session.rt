@@ -180,7 +180,7 @@ impl<
 
     /// Ends the session: the link at hand is hung up, if there is one. There is none if the last dial failed. The dialer comes back.
     pub fn close(self) -> D
-        ensures { ClosesNumbered I.link I.left I.given I.faults O.link O.taken O.faults D.asked D.ended D.lost D.faults self.link.pass result }
+        ensures { ClosesNumbered I.link I.left I.given I.faults O.link O.taken O.faults D.asked D.ended D.lost D.faults self.entry.link.pass result }
     {
         let Session {
             alloc: _alloc,

@@ -105,7 +105,7 @@ impl<
 
     /// Hangs up the link at hand, if there is one: there is none if the last dial failed. The dialer comes back.
     pub fn close(self) -> D
-        ensures { ClosesNumbered I.link I.left I.given I.faults O.link O.taken O.faults D.asked D.ended D.lost D.faults self.pass result }
+        ensures { ClosesNumbered I.link I.left I.given I.faults O.link O.taken O.faults D.asked D.ended D.lost D.faults self.entry.pass result }
     {
         let SharedLink { rt, shared, pass } = self;
         let (requester, link, mut dialer) = shared.close(rt, pass);
@@ -130,7 +130,7 @@ impl<
 
     ghost relations = { shared_relations };
 
-    ghost at = { λ l. caller_view l.pass.main };
+    ghost at = { λ l. caller_view I.link I.left I.given I.faults D.asked D.ended D.faults l.pass };
 
     fn call(&mut self, call: Call) -> Result<Outcome, CallEnd> {
         match self.shared.call(self.rt, &mut self.pass, call, Form::Auto) {
