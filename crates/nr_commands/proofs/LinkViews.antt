@@ -45,7 +45,7 @@ dialer_view k d = dialer_at (k.asked d) (k.ended d) (k.lost d) (k.dialer_faults 
 abbrev pub link_view : {I O D : Type 0} → Known I O D → Option (I × O) → Option (SourceView × SinkView)
 link_view k link = option_map (λ l. (source_view k l.0, sink_view k l.1)) link
 
-abbrev GivesBackView : List Entry → List ℕ → SourceView → DialerAt → (addr : List ℕ) → (read : ℕ) → RequesterSide → Option (SourceView × SinkView) → DialerAt → Type 0
+abbrev pub GivesBackView : List Entry → List ℕ → SourceView → DialerAt → (addr : List ℕ) → (read : ℕ) → RequesterSide → Option (SourceView × SinkView) → DialerAt → Type 0
 GivesBackView seen mine source dialed addr read r link between =
     GivesBack {I = SourceView} {O = SinkView} {D = DialerAt} (λ s. s.link) (λ s. s.left) (λ s. s.given) (λ s. s.faults) (λ k. k.link) (λ k. k.taken) (λ k. k.faults) (λ d. d.asked) (λ d. d.ended) (λ d. d.faults)
     (λ call form. ⊤) seen mine source dialed addr read r link between
@@ -81,15 +81,19 @@ view_link k numbered told shared read None None history h = h
 view_link k numbered told shared read (Some (source, sink)) None history h = h
 view_link k numbered told shared read None (Some initial) history h = h
 
-view_dialer : {I O D : Type 0} (k : Known I O D) (addr : List ℕ) (giving : InitialGiving) (first dialer : D) (p : PresentLink)
-    → KeepsDialer k.asked k.ended k.dialer_faults addr giving first dialer p
-    → KeepsDialer {D = DialerAt} (λ d. d.asked) (λ d. d.ended) (λ d. d.faults) addr giving (dialer_view k first) (dialer_view k dialer) p
-view_dialer k addr giving first dialer p d = record { open_link = d.open_link; hung_up = d.hung_up; dialled = d.dialled; counted = d.counted; failed = d.failed }
+-- as it was at first, whatever its count of lost links was
+abbrev pub first_dialer_view : {I O D : Type 0} → Known I O D → (lost : ℕ) → D → DialerAt
+first_dialer_view k lost d = dialer_at (k.asked d) (k.ended d) lost (k.dialer_faults d)
 
-pub view_back : {I O D : Type 0} (k : Known I O D) (seen : List Entry) (mine : List ℕ) (first : I) (first_dialer : D) (addr : List ℕ) (read : ℕ) (r : RequesterSide) (link : Option (I × O)) (dialer : D)
+view_dialer : {I O D : Type 0} (k : Known I O D) (lost : ℕ) (addr : List ℕ) (giving : InitialGiving) (first dialer : D) (p : PresentLink)
+    → KeepsDialer k.asked k.ended k.dialer_faults addr giving first dialer p
+    → KeepsDialer {D = DialerAt} (λ d. d.asked) (λ d. d.ended) (λ d. d.faults) addr giving (first_dialer_view k lost first) (dialer_view k dialer) p
+view_dialer k lost addr giving first dialer p d = record { open_link = d.open_link; hung_up = d.hung_up; dialled = d.dialled; counted = d.counted; failed = d.failed }
+
+pub view_back : {I O D : Type 0} (k : Known I O D) (lost : ℕ) (seen : List Entry) (mine : List ℕ) (first : I) (first_dialer : D) (addr : List ℕ) (read : ℕ) (r : RequesterSide) (link : Option (I × O)) (dialer : D)
     → GivesBack k.link k.left k.given k.faults k.sink_link k.taken k.sink_faults k.asked k.ended k.dialer_faults (λ (call : Call) (form : Form). ⊤) seen mine first first_dialer addr read r link dialer
-    → GivesBackView seen mine (source_view k first) (dialer_view k first_dialer) addr read r (link_view k link) (dialer_view k dialer)
-view_back k seen mine first first_dialer addr read r link dialer b = record {
+    → GivesBackView seen mine (source_view k first) (first_dialer_view k lost first_dialer) addr read r (link_view k link) (dialer_view k dialer)
+view_back k lost seen mine first first_dialer addr read r link dialer b = record {
   history = b.history;
   begins = b.begins;
   lies = b.lies;
@@ -109,7 +113,7 @@ view_back k seen mine first first_dialer addr read r link dialer b = record {
   fed = b.fed;
   read = b.read;
   link_is = view_link k (is_some b.initial.tries) (is_some (k.ended first_dialer)) (shared_giving k.left k.given k.faults first) _ link (sink_of b.history) b.history b.link_is;
-  dialer_is = view_dialer k addr (shared_giving k.left k.given k.faults first) first_dialer dialer (present b.history) b.dialer_is;
+  dialer_is = view_dialer k lost addr (shared_giving k.left k.given k.faults first) first_dialer dialer (present b.history) b.dialer_is;
 }
 
 -- of the link at hand, which was hung up
@@ -135,7 +139,7 @@ view_given_up : {I O D : Type 0} (k : Known I O D) (history : List Entry) (first
 view_given_up k history first first_dialer addr r dialer g = record {
   link = link_view k g.link;
   between = dialer_view k g.between;
-  gives = view_back k history [] first first_dialer addr 0 r g.link g.between g.gives;
+  gives = view_back k (k.lost first_dialer) history [] first first_dialer addr 0 r g.link g.between g.gives;
   hung_up = view_hung_up k g.link g.between dialer g.hung_up;
 }
 
