@@ -26,7 +26,7 @@ pub(crate) struct LentDialer<'a, D: Dialer, N: BorrowName> {
 impl<'a, D: Dialer, N: BorrowName> LentDialer<'a, D, N> {
     /// The same dialer.
     pub(crate) fn new(dialer: &'a mut D) -> LentDialer<'a, D, N>
-        requires { dialer.entry.ghost_name ≡ N.name }
+        requires { dialer.ghost_name ≡ N.name }
         ensures { result.dialer.now ≡ dialer.old }
     {
         LentDialer {
@@ -37,7 +37,7 @@ impl<'a, D: Dialer, N: BorrowName> LentDialer<'a, D, N> {
 
     /// The dialer, behind the same borrow.
     pub(crate) fn into_inner(self) -> &'a mut D
-        ensures same { result.now ≡ self.dialer.now }
+        ensures same { result.now ≡ self.entry.dialer.now }
         ensures name { result.ghost_name ≡ N.name }
     {
         let LentDialer { dialer, of: _of } = self;

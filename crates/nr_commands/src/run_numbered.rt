@@ -34,7 +34,7 @@ fn run_lent<
     input: &mut I,
     out: &mut K,
 ) -> Result<(), ClientEnd>
-    requires name { dial.entry.ghost_name ≡ N.name }
+    requires name { dial.ghost_name ≡ N.name }
     requires numbers { (0 < numbered.now.number) × (numbered.now.tries ≤ tries_max) }
     ensures { RunsNumbered (plain_numbered numbered.now)
         (dialer_at (D.asked dial.old) (D.ended dial.old) (D.lost dial.old) (D.faults dial.old))
