@@ -9,7 +9,7 @@ ghost use Rattle.nr_commands.specs.NumberedRuns.{RunsNumbered};
 
 use crate::lent_dialer::{BorrowName, LentDialer};
 use crate::run::{print, text_of};
-use nr_client::{ClientEnd, Session, SharedLink};
+use nr_client::{ClientEnd, Session};
 use nr_links::{Dialer, LinkSink, LinkSource};
 use nr_outside::{Sink, Source};
 use nr_words::NumberedClient;
@@ -17,8 +17,9 @@ use std::alloc::Global;
 use std::marker::Brand;
 use std::sync::Wait;
 
-/// Runs a command of a client with a number over links of a dialer, which is behind the borrow of this name.
+/// Runs a command of a client with a number over links of a dialer, which is behind the borrow of this name. The borrow comes back.
 fn run_lent<
+    'd,
     N: BorrowName,
     R: Wait,
     P: LinkSource + Drop,
@@ -30,23 +31,25 @@ fn run_lent<
     rt: &R,
     alloc: Global,
     numbered: &NumberedClient<&str>,
-    dial: &mut D,
+    dial: &'d mut D,
     input: &mut I,
     out: &mut K,
-) -> Result<(), ClientEnd>
+) -> (Result<(), ClientEnd>, &'d mut D)
     requires name { dial.ghost_name ≡ N.name }
     requires numbers { (0 < numbered.now.number) × (numbered.now.tries ≤ tries_max) }
-    ensures { RunsNumbered (plain_numbered numbered.now)
+    ensures name { result.1.ghost_name ≡ N.name }
+    ensures runs { RunsNumbered (plain_numbered numbered.now)
         (dialer_at (D.asked dial.old) (D.ended dial.old) (D.lost dial.old) (D.faults dial.old))
-        (dialer_at (D.asked dial.new) (D.ended dial.new) (D.lost dial.new) (D.faults dial.new))
+        (dialer_at (D.asked result.1.now) (D.ended result.1.now) (D.lost result.1.now) (D.faults result.1.now))
         (source_at (I.left input.old) (I.given input.old) (I.faults input.old)) (source_at (I.left input.new) (I.given input.new) (I.faults input.new))
-        (sink_at (K.taken out.old) (K.faults out.old)) (sink_at (K.taken out.new) (K.faults out.new)) result }
+        (sink_at (K.taken out.old) (K.faults out.old)) (sink_at (K.taken out.new) (K.faults out.new)) result.0 }
 {
     let client = &numbered.client;
-    let opened = Session::<SharedLink<'_, R, P, Q, LentDialer<'_, D, N>>>::open_numbered(
+    let lent: LentDialer<'d, D, N> = LentDialer::new(dial);
+    let opened = Session::open_numbered(
         rt,
         alloc,
-        LentDialer::new(dial),
+        lent,
         client.addr,
         client.uid,
         client.gid,
@@ -57,10 +60,7 @@ fn run_lent<
     );
     let mut session = match opened {
         Ok(session) => session,
-        Err((end, lent)) => {
-            let _dial = lent.into_inner();
-            return Err(end);
-        }
+        Err((end, lent)) => return (Err(end), lent.into_inner()),
     };
     let text = text_of(
         alloc,
@@ -70,8 +70,8 @@ fn run_lent<
         input,
         out,
     );
-    let _dial = session.close().into_inner();
-    print(out, text)
+    let back = session.close().into_inner();
+    (print(out, text), back)
 }
 
 /// Runs a command of a client with a number as [`run_command`](crate::run_command) runs one without, but for its link. If that is lost, it is
@@ -105,5 +105,7 @@ pub fn run_numbered<
         (source_at (N.left input.old) (N.given input.old) (N.faults input.old)) (source_at (N.left input.new) (N.given input.new) (N.faults input.new))
         (sink_at (K.taken out.old) (K.faults out.old)) (sink_at (K.taken out.new) (K.faults out.new)) result }
 {
-    run_lent::<Brand, R, P, Q, D, N, K>(rt, alloc, numbered, dial, input, out)
+    let (result, _dial) =
+        run_lent::<Brand, R, P, Q, D, N, K>(rt, alloc, numbered, dial, input, out);
+    result
 }
