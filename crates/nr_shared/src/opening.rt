@@ -1,6 +1,6 @@
 //! A requester is shared, and given back.
 
-ghost use Rattle.std.specs.Prelude.{◌≡◌, ◌≢◌, ◌<◌, ◌≤◌, [], ◌∷◌, List, None, Some, IfOk, IfErr};
+ghost use Rattle.std.specs.Prelude.{◌≡◌, ◌≢◌, ◌<◌, ◌≤◌, [], ◌∷◌, List, None, Some, IfSome, IfOk, IfErr};
 ghost use Rattle.nr_outside.specs.Faults.{last_count};
 ghost use Rattle.nr_link.specs.declared.end.End.TheVariants as ends;
 ghost use Rattle.nr_links.specs.Limits.{read_max};
@@ -10,7 +10,8 @@ ghost use Rattle.nr_shared.specs.declared.source_reader.InitialSource.{InitialSo
 ghost use Rattle.nr_shared.specs.Callers.{IsCaller};
 ghost use Rattle.nr_shared.specs.Feeding.{FeedsFor};
 ghost use Rattle.nr_shared.specs.Opening.{GivesBack, IsInitialHistory};
-ghost use Rattle.nr_shared.specs.Numbered.{IsBegun, IsNotShared, NumberedOpened, NumberedRefused};
+ghost use Rattle.nr_links.specs.Links.{HasOpenLink};
+ghost use Rattle.nr_shared.specs.Numbered.{HangsUpBack, IsBegun, IsNotShared, NumberedOpened, NumberedRefused};
 ghost use Rattle.nr_shared.specs.Standing.{Stands, bytes_before};
 ghost use Rattle.nr_shared.specs.private.Reading.{both};
 ghost use Rattle.nr_shared.specs.declared.no_dialer.NoDialer.{NoDialer};
@@ -138,7 +139,8 @@ fn both_halves<I: Drop, O: Drop>(source: Option<I>, sink: Option<O>) -> Option<(
 {
     match (source, sink) {
         (Some(source), Some(sink)) => Some((source, sink)),
-        _ => None,
+        (None, _) => None,
+        (Some(_), None) => None,
     }
 }
 
@@ -277,6 +279,20 @@ impl<I: LinkSource + Drop, O: LinkSink + Drop, C: CallRule> SharedRequester<
     }
 }
 
+/// Hangs up a link that came back, if there is one.
+fn hang_up_back<I: LinkSource, O: LinkSink, D: Dialer<Source = I, Sink = O>>(
+    link: Option<(I, O)>,
+    dialer: &mut D,
+)
+    requires { IfSome link (λ halves. (I.link halves.0 ≡ O.link halves.1) × HasOpenLink (D.ended dialer.old)) }
+    ensures { HangsUpBack I.link I.left I.given O.taken D.ended D.faults link dialer.old dialer.new }
+{
+    match link {
+        Some((source, sink)) => dialer.hang_up(source, sink),
+        None => {}
+    }
+}
+
 /// Shares a requester over a link that was just dialled. If memory runs out, the link is hung up.
 fn share_dialled<
     K: Appended,
@@ -306,9 +322,7 @@ fn share_dialled<
     match share::<InitialHistory<K>, R, I, O, C, D>(rt, alloc, with_sink, source, dialer, addr, 0) {
         Ok(opened) => Ok(opened),
         Err((requester, link, mut dialer)) => {
-            if let Some((source, sink)) = link {
-                dialer.hang_up(source, sink);
-            }
+            hang_up_back(link, &mut dialer);
             Err(NotShared::Memory(requester, dialer))
         }
     }
