@@ -47,23 +47,23 @@ pub begun_dialled : {I O D : Type 0} (source_link : I → ℕ) (link : O → ℕ
     → IsBegun source_link ended (entries.Initial (dialled_state link taken faults r sink tries) ∷ []) source dialer
 begun_dialled source_link link taken faults ended r source sink dialer tries same made = record { initial = dialled_state link taken faults r sink tries; history_is = refl; same = λ some. same; link_made = λ some. made }
 
-module _ {I O D : Type 0} (link : I → ℕ) (left given : I → Option (List ℕ)) (source_faults : I → ℕ) (sink_link : O → ℕ) (taken : O → Option (List ℕ)) (sink_faults : O → ℕ) (ended : D → Option LinkLog) (dialer_faults : D → ℕ) (allows : Call → Form → Type 0) where
+module _ {I O D : Type 0} (link : I → ℕ) (left given : I → Option (List ℕ)) (source_faults : I → ℕ) (sink_link : O → ℕ) (taken : O → Option (List ℕ)) (sink_faults : O → ℕ) (asked : D → Option (List (List ℕ))) (ended : D → Option LinkLog) (dialer_faults : D → ℕ) (allows : Call → Form → Type 0) where
   -- the link that came back can be hung up
-  pub back_dialled : (tries : ℕ) (r : RequesterSide) (sink : O) (history : List Entry) (first : I) (first_dialer : D) (read : ℕ) (r' : RequesterSide) (halves : Option (I × O)) (dialer : D) → IsInitialHistory sink_link taken sink_faults r sink (Some tries) history → IsBegun link ended history first first_dialer
-      → GivesBack link left given source_faults sink_link taken sink_faults ended dialer_faults allows history [] first first_dialer read r' halves dialer → IfSome halves (λ h. (link h.0 ≡ sink_link h.1) × HasOpenLink (ended dialer))
-  back_dialled tries r sink history first first_dialer read r' None dialer o begun back = tt
-  back_dialled tries r sink history first first_dialer read r' (Some (a, b)) dialer o begun back =
-      back_open link left given source_faults sink_link taken sink_faults ended dialer_faults allows history [] first first_dialer read r' a b dialer
+  pub back_dialled : (tries : ℕ) (r : RequesterSide) (sink : O) (history : List Entry) (first : I) (first_dialer : D) (addr : List ℕ) (read : ℕ) (r' : RequesterSide) (halves : Option (I × O)) (dialer : D) → IsInitialHistory sink_link taken sink_faults r sink (Some tries) history → IsBegun link ended history first first_dialer
+      → GivesBack link left given source_faults sink_link taken sink_faults asked ended dialer_faults allows history [] first first_dialer addr read r' halves dialer → IfSome halves (λ h. (link h.0 ≡ sink_link h.1) × HasOpenLink (ended dialer))
+  back_dialled tries r sink history first first_dialer addr read r' None dialer o begun back = tt
+  back_dialled tries r sink history first first_dialer addr read r' (Some (a, b)) dialer o begun back =
+      back_open link left given source_faults sink_link taken sink_faults asked ended dialer_faults allows history [] first first_dialer addr read r' a b dialer
       (ap (λ (h : List Entry). is_some (tries_of h)) o.history_is ∙ ap (λ (t : Option ℕ). is_some t) o.tries_are) o.initial (ap (λ (h : List Entry). initial_of h) o.history_is)
       (begun.link_made (ap (λ (c : Option InitialState). is_some (tries_in c)) (ap (λ (h : List Entry). initial_of h) (sym begun.history_is ∙ o.history_is)) ∙ ap (λ (t : Option ℕ). is_some t) o.tries_are)) back
 
   -- memory ran out after the dial
-  pub not_dialled : (asked : D → Option (List (List ℕ))) (r : RequesterSide) (dialer dialled : D) (addr : List ℕ) (tries : ℕ) (source : I) (sink : O) (why : NotShared D) → IsNewLink (given source) (taken sink) (source_faults source) (sink_faults sink) → Asks (asked dialer) (asked dialled) addr
+  pub not_dialled : (r : RequesterSide) (dialer dialled : D) (addr : List ℕ) (tries : ℕ) (source : I) (sink : O) (why : NotShared D) → IsNewLink (given source) (taken sink) (source_faults source) (sink_faults sink) → Asks (asked dialer) (asked dialled) addr
       → MakesLink (ended dialer) (ended dialled) → dialer_faults dialled ≡ dialer_faults dialer
-      → NumberedRefused link left given source_faults sink_link taken sink_faults ended dialer_faults allows (entries.Initial (dialled_state sink_link taken sink_faults r sink tries) ∷ []) source dialled why
+      → NumberedRefused link left given source_faults sink_link taken sink_faults asked ended dialer_faults allows (entries.Initial (dialled_state sink_link taken sink_faults r sink tries) ∷ []) source dialled addr why
       → IsNotShared link left given source_faults sink_link taken sink_faults asked ended dialer_faults allows r dialer addr tries why
-  not_dialled asked r dialer dialled addr tries source sink (not_shared.DialFault r' dialer') new asks made counted refused = absurd refused
-  not_dialled asked r dialer dialled addr tries source sink (not_shared.Memory r' dialer') new asks made counted refused = inr (record {
+  not_dialled r dialer dialled addr tries source sink (not_shared.DialFault r' dialer') new asks made counted refused = absurd refused
+  not_dialled r dialer dialled addr tries source sink (not_shared.Memory r' dialer') new asks made counted refused = inr (record {
     sink = dialled_sink sink_link taken sink_faults sink;
     source = source;
     dialled = dialled;
