@@ -9,4 +9,4 @@ pub share-requires-clause-begun : goal.share-requires-clause-begun
 share-requires-clause-begun g c = begun_once g.I.LinkSource.link g.O.LinkSink.link g.O.Sink.taken g.O.Sink.faults _ c.args.requester c.args.sink g.H.OpeningHistory.history c.args.source _ c.requires.initial
 
 pub returns-in-Ok-clause-source : goal.returns-in-Ok-clause-source
-returns-in-Ok-clause-source g c = let (b, (seen, (source, (dialer, read)))) = c.in-Ok.ensures.source in (b, (seen, (source, read)))
+returns-in-Ok-clause-source g c = let (b, (seen, (source, (dialer, (addr, read))))) = c.in-Ok.ensures.source in (b, (seen, (source, read)))
