@@ -208,12 +208,12 @@ link_back link left given source_faults sink_link taken sink_faults asked ended 
 pub back_open : {I O D : Type 0} (link : I → ℕ) (left given : I → Option (List ℕ)) (source_faults : I → ℕ) (sink_link : O → ℕ) (taken : O → Option (List ℕ)) (sink_faults : O → ℕ) (asked : D → Option (List (List ℕ))) (ended : D → Option LinkLog) (dialer_faults : D → ℕ) (allows : Call → Form → Type 0)
     (history : List Entry) (mine : List ℕ) (first : I) (first_dialer : D) (addr : List ℕ) (read : ℕ) (r : RequesterSide) (source : I) (sink : O) (dialer : D) → is_some (tries_of history) ≡ true → (c : InitialState) → initial_of history ≡ Some c → HasOpenLink (ended first_dialer)
     → GivesBack link left given source_faults sink_link taken sink_faults asked ended dialer_faults allows history mine first first_dialer addr read r (Some (source, sink)) dialer → (link source ≡ sink_link sink) × HasOpenLink (ended dialer)
-back_open link left given source_faults sink_link taken sink_faults asked ended dialer_faults allows history mine first first_dialer addr read r source sink dialer some c is opened b = by (sink_of b.history) refl b.link_is where
+back_open link left given source_faults sink_link taken sink_faults asked ended dialer_faults allows history mine first first_dialer addr read r source sink dialer numbered c is opened b = by (sink_of b.history) refl b.link_is where
   same : initial_of b.history ≡ Some c
   same = ap (λ (l : List Entry). initial_of l) b.begins.1 ∙ initial_more history b.begins.0 c is
 
   tries : is_some b.initial.tries ≡ true
-  tries = ap (λ (o : Option InitialState). is_some (tries_in o)) (sym b.is_initial ∙ (same ∙ sym is)) ∙ some
+  tries = ap (λ (o : Option InitialState). is_some (tries_in o)) (sym b.is_initial ∙ (same ∙ sym is)) ∙ numbered
 
   by : (i : Option InitialSink) → sink_of b.history ≡ i → GivesLink link left given source_faults sink_link taken sink_faults (is_some b.initial.tries) (is_some (ended first_dialer)) (shared_giving left given source_faults first) (read + length (bytes_fed b.history)) (Some (source, sink)) i b.history
       → (link source ≡ sink_link sink) × HasOpenLink (ended dialer)
