@@ -29,7 +29,7 @@ use Rattle.nr_shared.proofs.FeedsOn.{dialer_same, source_same}
 use Rattle.nr_shared.proofs.Histories.{allowed_by, initial_more}
 use Rattle.nr_requester.specs.RequesterState.{RequesterSide}
 use Rattle.nr_shared.proofs.Lists.{at_after, at_begin, in_ordered, not_twice, still_first, still_ordered}
-use Rattle.nr_shared.proofs.Opened.{dialer_begun, source_begun}
+use Rattle.nr_shared.proofs.Opened.{dialer_begun, earlier_begun, source_begun}
 use Rattle.nr_shared.proofs.Resting.{seen_one}
 use Rattle.nr_shared.proofs.Told.{IsTold, tries_told}
 use Rattle.nr_reduce.specs.declared.call.Call.{Call}
@@ -148,6 +148,15 @@ module _ {I O C D : Type 0} (link : I → ℕ) (left given : I → Option (List 
             (gives_if link left given source_faults sink_link taken sink_faults (is_some (tries_of h)) (is_some (ended dialer)) shared (Some source) m.sink (sink_of h) read h (source_begun link left given source_faults ended (is_some (ended dialer)) h source dialer read begun) st.sink));
         dialer_is = dialer_begun link asked ended dialer_faults addr (shared_giving left given source_faults source) h source dialer begun;
       }
+
+  -- the same of what came back
+  pub unshared_as : (m : RequesterWithSink O C) (h : List Entry) (source : I) (dialer : D) (addr : List ℕ) (read_before : ℕ) (r : RequesterSide) (both_halves : Option (I × O)) (d : D) → read_before ≤ read_max → Stands sink_link taken sink_faults allows m h → IsBegun link ended h source dialer
+      → r ≡ m.requester → both_halves ≡ both (Some source) m.sink → d ≡ dialer → GivesBack link left given source_faults sink_link taken sink_faults asked ended dialer_faults allows h [] source dialer addr read_before r both_halves d
+  unshared_as m h source dialer addr read_before r both_halves d within st begun same_requester same_link same_dialer =
+      subst (λ (x : RequesterSide). GivesBack link left given source_faults sink_link taken sink_faults asked ended dialer_faults allows h [] source dialer addr read_before x both_halves d) (sym same_requester)
+      (subst (λ (x : Option (I × O)). GivesBack link left given source_faults sink_link taken sink_faults asked ended dialer_faults allows h [] source dialer addr read_before m.requester x d) (sym same_link)
+      (subst (λ (x : D). GivesBack link left given source_faults sink_link taken sink_faults asked ended dialer_faults allows h [] source dialer addr read_before m.requester (both (Some source) m.sink) x) (sym same_dialer)
+      (unshared m h source dialer addr read_before within st (earlier_begun link ended h source dialer begun) begun)))
 
 -- by another rule, which allows what this one does
 pub back_by : {I O D : Type 0} (link : I → ℕ) (left given : I → Option (List ℕ)) (source_faults : I → ℕ) (sink_link : O → ℕ) (taken : O → Option (List ℕ)) (sink_faults : O → ℕ) (asked : D → Option (List (List ℕ))) (ended : D → Option LinkLog) (dialer_faults : D → ℕ)
