@@ -25,7 +25,7 @@ use Rattle.nr_shared.specs.private.Reading.{both, read_part}
 use Rattle.nr_shared.proofs.Adding.{begins_then}
 use Rattle.nr_shared.proofs.Alone.{AreQuiet, bytes_quiet, part_quiet}
 use Rattle.nr_shared.proofs.Chains.{no_link_after}
-use Rattle.nr_shared.proofs.FeedsOn.{dialer_same, source_same}
+use Rattle.nr_shared.proofs.Kept.{dialer_same, source_same}
 use Rattle.nr_shared.proofs.Histories.{allowed_by, initial_more}
 use Rattle.nr_requester.specs.RequesterState.{RequesterSide}
 use Rattle.nr_shared.proofs.Lists.{at_after, at_begin, in_ordered, not_twice, still_first, still_ordered}
