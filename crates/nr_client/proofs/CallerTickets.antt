@@ -80,20 +80,20 @@ found_at seen xid k call (e, at, is) un =
 
 found_in : (seen : List Entry) (xid : ℕ) (places : List ℕ) (call : Call) → unclosed_in seen xid places ≡ Some call → StandsIn seen xid places call
 found_in seen xid [] call is = absurd cc
-found_in seen xid (k ∷ ks) call is = by (unclosed_call seen xid k) refl is where
-  by : (o : Option Call) → unclosed_call seen xid k ≡ o → or_later o (unclosed_in seen xid ks) ≡ Some call → StandsIn seen xid (k ∷ ks) call
-  by (Some c) here found = let both = stands_at seen xid k call (here ∙ found) in record { at = k; own = (0, refl); stands = both.0; unclosed = both.1 }
-  by None here found = let later = found_in seen xid ks call found in record { at = later.at; own = (suc later.own.0, later.own.1); stands = later.stands; unclosed = later.unclosed }
+found_in seen xid (k ∷ ks) call is = by (unclosed_call seen xid k) refl is (λ found. found_in seen xid ks call found) where
+  by : (o : Option Call) → unclosed_call seen xid k ≡ o → or_later o (unclosed_in seen xid ks) ≡ Some call → (unclosed_in seen xid ks ≡ Some call → StandsIn seen xid ks call) → StandsIn seen xid (k ∷ ks) call
+  by (Some c) here found among = let both = stands_at seen xid k call (here ∙ found) in record { at = k; own = (0, refl); stands = both.0; unclosed = both.1 }
+  by None here found among = let later = among found in record { at = later.at; own = (suc later.own.0, later.own.1); stands = later.stands; unclosed = later.unclosed }
 
 some_in : (seen : List Entry) (xid : ℕ) (places : List ℕ) (k : ℕ) (call : Call) → IsIn k places → IsCallAt seen xid k call → IsUnclosed seen k → is_some (unclosed_in seen xid places) ≡ true
 some_in seen xid [] k call i is un = absurd (some-ne-none k (sym i.1))
 some_in seen xid (j ∷ ks) k call (zero, at) is un =
     let same : j ≡ k = some-injective j k at in
     ap (λ (o : Option Call). is_some (or_later o (unclosed_in seen xid ks))) (ap (unclosed_call seen xid) same ∙ found_at seen xid k call is un)
-some_in seen xid (j ∷ ks) k call (suc n, at) is un = by (unclosed_call seen xid j) where
-  by : (o : Option Call) → is_some (or_later o (unclosed_in seen xid ks)) ≡ true
-  by (Some c) = refl
-  by None = some_in seen xid ks k call (n, at) is un
+some_in seen xid (j ∷ ks) k call (suc n, at) is un = by (unclosed_call seen xid j) (some_in seen xid ks k call (n, at) is un) where
+  by : (o : Option Call) → is_some (unclosed_in seen xid ks) ≡ true → is_some (or_later o (unclosed_in seen xid ks)) ≡ true
+  by (Some c) later = refl
+  by None later = later
 
 -- the call that stands at a place is one
 one_call : (seen : List Entry) (xid k : ℕ) (c d : Call) → IsCallAt seen xid k c → IsCallAt seen xid k d → c ≡ d
@@ -150,7 +150,7 @@ no_call : (call : Call) → None ≡ Some call → ⊥
 no_call call is = absurd cc
 
 -- none of these entries submits a call
-SubmitsNone : List Entry → Type 0
+abbrev SubmitsNone : List Entry → Type 0
 SubmitsNone es = (xid : ℕ) (e : Entry) (call : Call) → IsIn e es → submitted_call xid e ≡ Some call → ⊥
 
 writes_none : (es : List Entry) → AreWrites es → SubmitsNone es
@@ -178,9 +178,9 @@ none_one e never xid f call (zero, at) is = no_call call (sym (never xid) ∙ (a
 none_one e never xid f call (suc n, at) is = some-ne-none f (sym at)
 
 none_added : (h : List Entry) (ks : List ℕ) (es : List Entry) → AreAt h ks es → SubmitsNone es → (xid k : ℕ) (call : Call) → IsIn k ks → IsCallAt h xid k call → ⊥
-none_added h ks es are none xid k call i (e, at, is) =
+none_added h ks es are silent xid k call i (e, at, is) =
     let (f, (one, there)) = at_one h ks es k are i in
-    none xid f call one (ap (submitted_call xid) (some-injective f e (sym there ∙ at)) ∙ is)
+    silent xid f call one (ap (submitted_call xid) (some-injective f e (sym there ∙ at)) ∙ is)
 
 -- of entries of which one submits a call, that stands at one place
 only_place : (h : List Entry) (ks : List ℕ) (xs ys : List Entry) (s : Entry) → AreAt h ks (xs ++ s ∷ ys) → SubmitsNone xs → SubmitsNone ys
@@ -214,9 +214,9 @@ was_open v w es xid k call lies a has = ⊎_elim
 
 -- it was, if none of the entries that were added submits a call
 open_before : (v w : CallerView) (es : List Entry) → Lies v.seen v.mine → AddsTo v w es → SubmitsNone es → (xid k : ℕ) (call : Call) → HasCallAt w xid k call → HasCallAt v xid k call
-open_before v w es lies a none xid k call has = ⊎_elim
+open_before v w es lies a silent xid k call has = ⊎_elim
     (λ (old : HasCallAt v xid k call). old)
-    (λ (new : IsIn k a.places). absurd (none_added w.seen a.places es a.at none xid k call new has.stands))
+    (λ (new : IsIn k a.places). absurd (none_added w.seen a.places es a.at silent xid k call new has.stands))
     (was_open v w es xid k call lies a has)
 
 -- it was, or it is the one call that they submit
@@ -265,8 +265,8 @@ tickets_of_forgotten v w call end known a =
 
 -- nothing is submitted, and nothing closed
 keeps_all : (v w : CallerView) (es : List Entry) → IsKnown v → KeepsLaw w.seen → AddsTo v w es → SubmitsNone es → KeepsOpenAt v w → KeepsTicketsOver shared_relations v w
-keeps_all v w es known law adds none keeps x =
-    same_open v w x law (λ k c has. call_on v w x k c adds.seen has (keeps k has.open_place)) (λ k c has. open_before v w es known.lies adds none x k c has)
+keeps_all v w es known law adds silent keeps x =
+    same_open v w x law (λ k c has. call_on v w x k c adds.seen has (keeps k has.open_place)) (λ k c has. open_before v w es known.lies adds silent x k c has)
 
 pub tickets_of_refused : (v w : CallerView) (call : Call) (end : CallEnd) → IsKnown v → RefusesBy v w call end → KeepsTicketsOver shared_relations v w
 tickets_of_refused v w call end known r = keeps_all v w r.writes_before known r.law r.adds (writes_none r.writes_before r.are_writes_before) r.keeps
@@ -322,14 +322,14 @@ ticket_of_submitted v w call xid known s =
 
 -- the open call of an xid is closed, and nothing is submitted
 closes_one : (v w : CallerView) (es : List Entry) (xid at : ℕ) (call : Call) → IsKnown v → KeepsLaw w.seen → HasCallAt v xid at call → AddsTo v w es → SubmitsNone es → KeepsOthersAt at v w → (IsUnclosed w.seen at → ⊥) → ClosesTicketOver shared_relations xid v w
-closes_one v w es xid at call known law had adds none keeps closed = record {
+closes_one v w es xid at call known law had adds silent keeps closed = record {
   own = none_open w xid (λ k c has.
-      (let old = open_before v w es known.lies adds none xid k c has in
+      (let old = open_before v w es known.lies adds silent xid k c has in
       let same : k ≡ at = one_place v.seen known.law xid k at c call old.stands old.open_place.1 had.stands had.open_place.1 in
       closed (subst (λ (n : ℕ). IsUnclosed w.seen n) same has.open_place.1)));
   others = λ x apart. same_open v w x law
       (λ k c has. call_on v w x k c adds.seen has (keeps k (λ same. apart (one_xid v.seen x xid k c call has.stands (subst (λ (n : ℕ). IsCallAt v.seen xid n call) (sym same) had.stands))) has.open_place))
-      (λ k c has. open_before v w es known.lies adds none x k c has);
+      (λ k c has. open_before v w es known.lies adds silent x k c has);
 }
 
 pub ticket_of_completed : (v w : CallerView) (xid : ℕ) (outcome : Outcome) → IsKnown v → CompletesBy xid outcome v w → ClosesTicketOver shared_relations xid v w
