@@ -32,8 +32,8 @@ not_place : (k : ℕ) (o : Option ℕ) → is_place k o ≡ false → o ≡ Some
 not_place k None is closes = absurd cc
 not_place k (Some n) is closes = let same : n ≡ k = some_same n k closes in
     absurd (let wrong : true ≡ false = sym (ap (λ (m : ℕ). m == k) same ∙ eq_self k) ∙ is in cc) where
-  eq_self : (m : ℕ) → (m == m) ≡ true
-  eq_self m = eq-eqb m m refl
+      eq_self : (m : ℕ) → (m == m) ≡ true
+      eq_self m = eq-eqb m m refl
 
 other_place : (k : ℕ) (o : Option ℕ) → (o ≡ Some k → ⊥) → is_place k o ≡ false
 other_place k None apart = refl
@@ -194,10 +194,10 @@ only_place h (j ∷ ks) [] ys s are before after = (j, λ xid k call i is. by xi
 only_place h (j ∷ ks) (x ∷ xs) ys s are before after =
     let (m, later) = only_place h ks xs ys s are.1 (λ xid e call i is. before xid e call (suc i.0, i.1) is) after in
     (m, λ xid k call i is. by m later xid k call i is) where
-  by : (m : ℕ) → ((xid k : ℕ) (call : Call) → IsIn k ks → IsCallAt h xid k call → k ≡ m) → (xid k : ℕ) (call : Call) → IsIn k (j ∷ ks) → IsCallAt h xid k call → k ≡ m
-  by m later xid k call (zero, at) (e, there, is) = let same : x ≡ e = some-injective x e (sym are.0 ∙ (ap (λ (n : ℕ). get_elem? h n) (some-injective j k at) ∙ there)) in
-      absurd (before xid x call (0, refl) (ap (submitted_call xid) same ∙ is))
-  by m later xid k call (suc n, at) is = later xid k call (n, at) is
+      by : (m : ℕ) → ((xid k : ℕ) (call : Call) → IsIn k ks → IsCallAt h xid k call → k ≡ m) → (xid k : ℕ) (call : Call) → IsIn k (j ∷ ks) → IsCallAt h xid k call → k ≡ m
+      by m later xid k call (zero, at) (e, there, is) = let same : x ≡ e = some-injective x e (sym are.0 ∙ (ap (λ (n : ℕ). get_elem? h n) (some-injective j k at) ∙ there)) in
+          absurd (before xid x call (0, refl) (ap (submitted_call xid) same ∙ is))
+      by m later xid k call (suc n, at) is = later xid k call (n, at) is
 
 -- a call that was open is so in the longer history, if its place is open
 call_on : (v w : CallerView) (xid k : ℕ) (call : Call) → Begins v.seen w.seen → HasCallAt v xid k call → IsOpenAt w k → HasCallAt w xid k call
@@ -209,8 +209,8 @@ was_open v w es xid k call lies a has = ⊎_elim
     (λ (old : IsIn k v.mine). inl (record { stands = stood old has.stands; open_place = (old, unclosed_before v.seen w.seen k a.seen has.open_place.1) }))
     (λ (new : IsIn k a.places). inr new)
     (in_either v.mine a.places k (subst (IsIn k) a.mine has.open_place.0)) where
-  stood : IsIn k v.mine → IsCallAt w.seen xid k call → IsCallAt v.seen xid k call
-  stood old (e, at, is) = (e, at_begin v.seen a.seen.0 k e (lies k old) (subst (λ (l : List Entry). get_elem? l k ≡ some e) a.seen.1 at), is)
+      stood : IsIn k v.mine → IsCallAt w.seen xid k call → IsCallAt v.seen xid k call
+      stood old (e, at, is) = (e, at_begin v.seen a.seen.0 k e (lies k old) (subst (λ (l : List Entry). get_elem? l k ≡ some e) a.seen.1 at), is)
 
 -- it was, if none of the entries that were added submits a call
 open_before : (v w : CallerView) (es : List Entry) → Lies v.seen v.mine → AddsTo v w es → SubmitsNone es → (xid k : ℕ) (call : Call) → HasCallAt w xid k call → HasCallAt v xid k call
@@ -226,13 +226,14 @@ open_or_new v w xs ys s at x c lies a before after stands new own xid k call has
     (λ (old : HasCallAt v xid k call). inl old)
     (λ (i : IsIn k a.places). inr (one.1 xid k call i has.stands ∙ sym (one.1 x at c there stands)))
     (was_open v w (xs ++ s ∷ ys) xid k call lies a has) where
-  one : (m : ℕ) × ((y j : ℕ) (d : Call) → IsIn j a.places → IsCallAt w.seen y j d → j ≡ m)
-  one = only_place w.seen a.places xs ys s a.at before after
-  there : IsIn at a.places
-  there = ⊎_elim
-      (λ (old : IsIn at v.mine). (let l = lies at old in absurd (omega (arith, l, new))))
-      (λ (i : IsIn at a.places). i)
-      (in_either v.mine a.places at (subst (IsIn at) a.mine own))
+      one : (m : ℕ) × ((y j : ℕ) (d : Call) → IsIn j a.places → IsCallAt w.seen y j d → j ≡ m)
+      one = only_place w.seen a.places xs ys s a.at before after
+
+      there : IsIn at a.places
+      there = ⊎_elim
+          (λ (old : IsIn at v.mine). (let l = lies at old in absurd (omega (arith, l, new))))
+          (λ (i : IsIn at a.places). i)
+          (in_either v.mine a.places at (subst (IsIn at) a.mine own))
 
 -- a place that an entry closes isn't open
 closed_there : (h before : List Entry) (e : Entry) (k : ℕ) → h ≡ before ++ e ∷ [] → closes_of e ≡ Some k → IsUnclosed h k → ⊥
@@ -252,8 +253,8 @@ made_and_closed v w xs ys call xid at last before known law xs_write ys_write la
     (λ (same : k ≡ at). absurd (closed_there w.seen before last k seen (closes ∙ ap Some (sym same)) has.open_place.1))
     (open_or_new v w xs (ys ++ last ∷ []) submit at xid call known.lies (subst (AddsTo v w) (append_assoc xs (submit ∷ ys) (last ∷ [])) adds) (writes_none xs xs_write)
     (none_both ys (last ∷ []) (writes_none ys ys_write) (none_one last last_none)) (submit, stands, asked_just xid call forms.Auto) new own x k c has)) where
-  submit : Entry
-  submit = entries.Submit call forms.Auto xid
+      submit : Entry
+      submit = entries.Submit call forms.Auto xid
 
 pub tickets_of_answer : (v w : CallerView) (call : Call) (outcome : Outcome) → IsKnown v → AnswersBy v w call outcome → KeepsTicketsOver shared_relations v w
 tickets_of_answer v w call outcome known a =
@@ -286,6 +287,7 @@ one_xid h x y k c d (e, at, is) (f, there, so) = by e is (ap (submitted_call y) 
       (λ (same : (n == z) ≡ true). eqb-true n z same)
       (λ (not : (n == z) ≡ false). absurd (no_call call (sym (ap (λ (b : Bool). if b then Some asked else None) not) ∙ is)))
       (cases_Bool (n == z))
+
   by : (g : Entry) → submitted_call x g ≡ Some c → submitted_call y g ≡ Some d → x ≡ y
   by (entries.Submit asked form n) one two = sym (under x n asked c one) ∙ under y n asked d two
   by (entries.Wrote bytes) one two = absurd (no_call c one)
@@ -317,8 +319,8 @@ ticket_of_submitted v w call xid known s =
           (λ (same : k ≡ s.at). absurd (apart (one_xid w.seen x xid k c call has.stands (subst (λ (n : ℕ). IsCallAt w.seen xid n call) (sym same) stood))))
           (open_or_new v w s.writes_before s.writes_after (entries.Submit call forms.Auto xid) s.at xid call known.lies s.adds (writes_none s.writes_before s.are_writes_before) (writes_none s.writes_after s.are_writes_after) stood s.new s.opened.0 x k c has));
     } where
-  stood : IsCallAt w.seen xid s.at call
-  stood = (entries.Submit call forms.Auto xid, s.stands, asked_just xid call forms.Auto)
+      stood : IsCallAt w.seen xid s.at call
+      stood = (entries.Submit call forms.Auto xid, s.stands, asked_just xid call forms.Auto)
 
 -- the open call of an xid is closed, and nothing is submitted
 closes_one : (v w : CallerView) (es : List Entry) (xid at : ℕ) (call : Call) → IsKnown v → KeepsLaw w.seen → HasCallAt v xid at call → AddsTo v w es → SubmitsNone es → KeepsOthersAt at v w → (IsUnclosed w.seen at → ⊥) → ClosesTicketOver shared_relations xid v w

@@ -136,13 +136,8 @@ impl<
     }
 }
 
-impl<
-    'a,
-    R: Wait,
-    I: LinkSource + Drop,
-    O: LinkSink + Drop,
-    D: Dialer<Source = I, Sink = O>,
-> Calls for SharedLink<'a, R, I, O, D> {
+impl<'a, R: Wait, I: LinkSource + Drop, O: LinkSink + Drop, D: Dialer<Source = I, Sink = O>> Calls
+    for SharedLink<'a, R, I, O, D> {
     ghost use Rattle.nr_client.specs.CallerViews.{CallerView, caller_view, shared_relations};
 
     ghost View = { CallerView };
@@ -156,7 +151,8 @@ impl<
     }
 
     fn submit(&mut self, call: Call) -> Result<Ticket, CallEnd> {
-        self.shared.submit(self.rt, &mut self.pass, call, Form::Auto)
+        self.shared
+            .submit(self.rt, &mut self.pass, call, Form::Auto)
     }
 
     fn wait(&mut self, ticket: Ticket) -> Result<Outcome, CallEnd> {

@@ -1,3 +1,4 @@
+use Rattle.std.proofs.Common.{sym}
 use Rattle.nr_client.proofs.NumberedLinks.{can_hang_up}
 use Rattle.nr_client.proofs.shared_link.SharedLink.close.Goals as goal
 
@@ -7,7 +8,7 @@ hang_up_last-requires g c =
     c.self.inside.shared c.self.inside.pass c.close-requester.ensures.0 c.close-requester.result.0 c.close-requester.result.1 c.close-requester.result.2 c.self.invariant c.close-requester.ensures.1.0 c.close-requester.ensures.1.1
 
 pub returns : goal.returns
-returns g c = rw c.self.view_is record {
+returns g c = rw (sym c.self.view_is) (record {
   first = c.close-requester.ensures.0;
   source = c.close-requester.ensures.1.0;
   requester = c.close-requester.result.0;
@@ -15,4 +16,4 @@ returns g c = rw c.self.view_is record {
   between = c.close-requester.result.2;
   back = c.close-requester.ensures.1.1;
   hung_up = c.hang_up_last.ensures;
-}
+})
