@@ -1,5 +1,5 @@
 -- What nr_shared says of two passes, said of what their caller knows.
-use Rattle.std.proofs.Common.{◌≡◌, ◌⊎◌, ℕ, true, List, [], ◌∷◌, ◌++◌, map, Option, Result, Ok, Err, IfOk, IfErr, OnErr, is_some, inl, inr, sym, ap, subst, ◌∙◌}
+use Rattle.std.proofs.Common.{◌≡◌, ◌⊎◌, ℕ, Bool, true, List, [], ◌∷◌, ◌++◌, map, Option, Result, Ok, Err, IfOk, IfErr, OnErr, is_some, inl, inr, sym, ap, subst, ◌∙◌}
 use Rattle.nr_links.specs.Links.{LinkLog}
 use Rattle.nr_reduce.specs.declared.call.Call.{Call}
 use Rattle.nr_reduce.specs.declared.call.Form.TheVariants as forms
@@ -18,7 +18,7 @@ use Rattle.nr_shared.specs.declared.source_reader.InitialSource.{InitialSource}
 use Rattle.nr_shared.specs.Adding.{Adds}
 use Rattle.nr_shared.specs.Callers.{HasOpenCall, KeepsLaw, KeepsOpen}
 use Rattle.nr_shared.specs.Histories.{initial_of, tries_in, tries_of}
-use Rattle.nr_shared.specs.Sharing.{SharedRests}
+use Rattle.nr_shared.specs.Sharing.{SaysCredit, SaysCreditOutOfMemory, SharedRests}
 use Rattle.nr_shared.specs.Waiting.{Calls, ForgetsCall, GivesUp, NoAnswer, OwnAnswer, Sends, SendsNone, Submits, Waits}
 use Rattle.nr_shared.proofs.Histories.{initial_more}
 use Rattle.nr_client.specs.CallerViews.{AddsTo, AnswersBy, CallerView, CompletesBy, ForgetsBy, ForgetsCallBy, ForgottenBy, GivesUpBy, LooksBy, RefusesBy, SubmitsBy, caller_view, first_link, open_call_of, shared_relations}
@@ -229,6 +229,10 @@ module _ {I O C D : Type 0} (link : I → ℕ) (left given : I → Option (List 
 
   pub seen_by_forget : (p q : Pass I O C D) (xid : ℕ) → is_some (open_call_of (view p) xid) ≡ true → ForgetsCall p.main q.main xid → Begins (seen_by p.main) (seen_by q.main)
   seen_by_forget p q xid is forgets = let (k, (call, has)) = open_at (view p) xid is in (forgets k call has.stands has.open_place).adds.seen
+
+-- what was said of a credit is said of this answer
+pub says_credit : (h : List Entry) (has answer : Bool) → has ≡ answer → SaysCredit has h → SaysCreditOutOfMemory has h → SaysCredit answer h × SaysCreditOutOfMemory answer h
+says_credit h has answer is says says_out = subst (λ (b : Bool). SaysCredit b h × SaysCreditOutOfMemory b h) is (says, says_out)
 
 -- ---- The link between two calls
 

@@ -12,6 +12,7 @@ use Rattle.nr_requester.specs.RequesterState.{RequesterSide}
 use Rattle.nr_turnstile.specs.Passes.{mine_of, seen_by}
 use Rattle.nr_shared.specs.declared.call_rule.AnyCall.{AnyCall}
 use Rattle.nr_shared.specs.declared.entry.Entry.{Entry}
+use Rattle.nr_shared.specs.declared.opening.NotShared.{NotShared}
 use Rattle.nr_shared.specs.declared.opening.NotShared.TheVariants as not_shared
 use Rattle.nr_shared.specs.declared.shared.Pass.{Pass}
 use Rattle.nr_shared.specs.declared.shared.SharedRequester.{SharedRequester}
@@ -65,11 +66,15 @@ module _ {I O D : Type 0} (link : I → ℕ) (left given : I → Option (List �
   }
 
   -- memory ran out
-  pub not_opened : (r back : RequesterSide) (terms : SideTerms) (dialer dialer' : D) (addr : List ℕ) (tries : ℕ) → IsNewRequester terms r
-      → IsNotShared link left given source_faults sink_link taken sink_faults asked ended dialer_faults (λ call form. ⊤) r dialer addr tries (not_shared.Memory back dialer')
+  pub not_opened : (r back : RequesterSide) (terms : SideTerms) (dialer dialer' : D) (addr : List ℕ) (tries : ℕ) (why : NotShared D) → IsNewRequester terms r → why ≡ not_shared.Memory back dialer'
+      → IsNotShared link left given source_faults sink_link taken sink_faults asked ended dialer_faults (λ call form. ⊤) r dialer addr tries why
       → NumberedFails link left given source_faults sink_link taken sink_faults asked ended dialer_faults tries terms addr dialer client.Memory dialer'
-  not_opened r back terms dialer dialer' addr tries new (inl same) = inl same.1
-  not_opened r back terms dialer dialer' addr tries new (inr gave) = inr (r, (back, (new, gave)))
+  not_opened r back terms dialer dialer' addr tries why new is refused =
+      by (subst (λ (n : NotShared D). IsNotShared link left given source_faults sink_link taken sink_faults asked ended dialer_faults (λ call form. ⊤) r dialer addr tries n) is refused) where
+        by : IsNotShared link left given source_faults sink_link taken sink_faults asked ended dialer_faults (λ call form. ⊤) r dialer addr tries (not_shared.Memory back dialer')
+            → NumberedFails link left given source_faults sink_link taken sink_faults asked ended dialer_faults tries terms addr dialer client.Memory dialer'
+        by (inl same) = inl same.1
+        by (inr gave) = inr (r, back, (new, gave))
 
   -- it can be hung up, if there is one
   pub can_hang_up : (s : SharedRequester I O AnyCall D) (p : Pass I O AnyCall D) (b : InitialSource I O AnyCall D) (r : RequesterSide) (halves : Option (I × O)) (dialer : D) → IsAtRest ended s p → seen_by p.source ≡ b ∷ []

@@ -16,5 +16,5 @@ invariant_of-result g c =
 pub returns-in-Err-Memory-clause-err : goal.returns-in-Err-Memory-clause-err
 returns-in-Err-Memory-clause-err g c =
     not_opened g.I.LinkSource.link g.I.Source.left g.I.Source.given g.I.Source.faults g.O.LinkSink.link g.O.Sink.taken g.O.Sink.faults g.D.Dialer.asked g.D.Dialer.ended g.D.Dialer.faults
-    c.in-Ok.requester c.in-Err-Memory.requester (numbered_terms c.args.client c.args.units c.args.invalidates) c.args.dialer c.in-Err-Memory.dialer c.args.addr.now c.args.tries
-    (record { state = c.in-Ok.ensures.state; stands = c.in-Ok.ensures.stands }) c.in-Err-Memory.ensures.err
+    c.in-Ok.requester c.in-Err-Memory.requester (numbered_terms c.args.client c.args.units c.args.invalidates) c.args.dialer c.in-Err-Memory.dialer c.args.addr.now c.args.tries c.in-Err-Memory.field-0
+    (record { state = c.in-Ok.ensures.state; stands = c.in-Ok.ensures.stands }) c.in-Err-Memory.field-0-is c.in-Err-Memory.ensures.err
