@@ -17,7 +17,7 @@ use Rattle.nr_shared.specs.declared.shared.SharedRequester.{SharedRequester}
 use Rattle.nr_shared.specs.declared.source_reader.InitialSource.{InitialSource}
 use Rattle.nr_shared.specs.Adding.{Adds}
 use Rattle.nr_shared.specs.Callers.{HasOpenCall, KeepsLaw, KeepsOpen}
-use Rattle.nr_shared.specs.Histories.{initial_of, tries_in, tries_of}
+use Rattle.nr_shared.specs.Histories.{tries_in, tries_of}
 use Rattle.nr_shared.specs.Sharing.{SaysCredit, SaysCreditOutOfMemory, SharedRests}
 use Rattle.nr_shared.specs.Waiting.{Calls, ForgetsCall, GivesUp, NoAnswer, OwnAnswer, Sends, SendsNone, Submits, Waits}
 use Rattle.nr_shared.proofs.Histories.{initial_more}

@@ -1,5 +1,5 @@
 -- Which calls of a shared requester's caller are open after its calls.
-use Rattle.std.proofs.Common.{◌≡◌, ◌≢◌, ◌⊎◌, ⊎_elim, ℕ, zero, suc, ◌<◌, ◌≤◌, ◌==◌, arith, Bool, true, false, if◌then◌else◌, List, [], ◌∷◌, ◌++◌, length, Option, None, Some, is_some, refl, sym, ap, subst, ◌∙◌, append_assoc, inl, inr}
+use Rattle.std.proofs.Common.{◌≡◌, ◌⊎◌, ⊎_elim, ℕ, zero, suc, ◌≤◌, ◌==◌, arith, Bool, true, false, if◌then◌else◌, List, [], ◌∷◌, ◌++◌, length, Option, None, Some, is_some, refl, sym, ap, subst, ◌∙◌, append_assoc, inl, inr}
 use Rattle.std.proofs.lemmas.Bool.{eq-eqb, eqb-true, or_from, or_parts, cases_Bool}
 use mathlib.Core.Option.{some, none, some-injective, some-ne-none}
 use lib.ListN.{get_elem?}
@@ -17,7 +17,7 @@ use Rattle.nr_shared.specs.Draining.{AreWrites}
 use Rattle.nr_shared.specs.Histories.{IsCallAt, IsUnclosed, closes_of, submitted_call}
 use Rattle.nr_shared.proofs.Adding.{at_one}
 use Rattle.nr_shared.proofs.Asking.{asked_just, asked_on, some_same}
-use Rattle.nr_shared.proofs.Lists.{at_begin, at_below, in_either}
+use Rattle.nr_shared.proofs.Lists.{at_begin, in_either}
 use Rattle.nr_client.specs.CallerViews.{AddsTo, AnswersBy, CallerView, CompletesBy, ForgetsBy, ForgetsCallBy, ForgottenBy, GivesUpBy, HasCallAt, IsOpenAt, KeepsOpenAt, KeepsOthersAt, LooksBy, RefusesBy, SubmitsBy, is_closed, is_place, open_call_of, or_later, shared_relations, submitted_in, unclosed_call, unclosed_in}
 use Rattle.nr_client.specs.Relations.{ClosesTicketOver, KeepsTicketsOver, OpensTicketOver}
 
