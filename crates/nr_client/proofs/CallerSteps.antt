@@ -1,8 +1,9 @@
 -- What nr_shared says of two passes, said of what their caller knows.
-use Rattle.std.proofs.Common.{◌≡◌, ◌⊎◌, ℕ, true, List, [], ◌∷◌, ◌++◌, map, Option, Result, Ok, Err, is_some, inl, inr, refl, sym, ap, ◌∙◌}
+use Rattle.std.proofs.Common.{◌≡◌, ◌⊎◌, ℕ, Bool, true, List, [], ◌∷◌, ◌++◌, map, Option, Result, Ok, Err, IfOk, IfErr, OnErr, is_some, inl, inr, sym, ap, subst, ◌∙◌}
 use Rattle.nr_links.specs.Links.{LinkLog}
 use Rattle.nr_reduce.specs.declared.call.Call.{Call}
 use Rattle.nr_reduce.specs.declared.call.Form.TheVariants as forms
+use Rattle.nr_reduce.specs.declared.call.Outcome.{Outcome}
 use Rattle.nr_requester.specs.declared.taking.Done.{Done}
 use Rattle.nr_turnstile.specs.Passes.{mine_of, seen_by}
 use Rattle.nr_turnstile.specs.Rule.{Begins, Lies}
@@ -16,17 +17,17 @@ use Rattle.nr_shared.specs.declared.shared.SharedRequester.{SharedRequester}
 use Rattle.nr_shared.specs.declared.source_reader.InitialSource.{InitialSource}
 use Rattle.nr_shared.specs.Adding.{Adds}
 use Rattle.nr_shared.specs.Callers.{HasOpenCall, KeepsLaw, KeepsOpen}
-use Rattle.nr_shared.specs.Histories.{initial_of, tries_in, tries_of}
-use Rattle.nr_shared.specs.Sharing.{SharedRests}
+use Rattle.nr_shared.specs.Histories.{tries_in, tries_of}
+use Rattle.nr_shared.specs.Sharing.{SaysCredit, SaysCreditOutOfMemory, SharedRests}
 use Rattle.nr_shared.specs.Waiting.{Calls, ForgetsCall, GivesUp, NoAnswer, OwnAnswer, Sends, SendsNone, Submits, Waits}
 use Rattle.nr_shared.proofs.Histories.{initial_more}
 use Rattle.nr_client.specs.CallerViews.{AddsTo, AnswersBy, CallerView, CompletesBy, ForgetsBy, ForgetsCallBy, ForgottenBy, GivesUpBy, LooksBy, RefusesBy, SubmitsBy, caller_view, first_link, open_call_of, shared_relations}
-use Rattle.nr_client.specs.Relations.{ClosesTicketOver, KeepsTicketsOver}
+use Rattle.nr_client.specs.Relations.{ClosesTicketOver, KeepsTicketsOver, OpensTicketOver}
 use Rattle.nr_client.specs.SharedParts.{IsAtRest}
-use Rattle.nr_client.proofs.CallerTickets.{IsKnown, open_at, ticket_of_completed, ticket_of_forgotten, tickets_of_answer, tickets_of_given_up, tickets_of_refused}
+use Rattle.nr_client.proofs.CallerTickets.{IsKnown, open_at, ticket_of_completed, ticket_of_forgotten, ticket_of_submitted, tickets_of_answer, tickets_of_given_up, tickets_of_refused}
 
 module _ {I O C D : Type 0} (link : I → ℕ) (left given : I → Option (List ℕ)) (faults : I → ℕ) (asked : D → Option (List (List ℕ))) (ended : D → Option LinkLog) (dialer_faults : D → ℕ) where
-  view : Pass I O C D → CallerView
+  abbrev pub view : Pass I O C D → CallerView
   view p = caller_view link left given faults asked ended dialer_faults p
 
   adds_to : (p q : Pass I O C D) (es : List Entry) → Adds p.main q.main es → seen_by q.source ≡ seen_by p.source → AddsTo (view p) (view q) es
@@ -161,6 +162,36 @@ module _ {I O C D : Type 0} (link : I → ℕ) (left given : I → Option (List 
   pub looked_by : (p q : Pass I O C D) → Adds p.main q.main [] → KeepsOpen p.main q.main → seen_by q.source ≡ seen_by p.source → KeepsLaw (seen_by q.main) → LooksBy (view p) (view q)
   looked_by p q added keeps same law = record { adds = adds_to p q [] added same; keeps = keeps; law = law }
 
+  -- ---- A call, by its result, and what a session sees of that
+
+  pub call_ok : (p q : Pass I O C D) (call : Call) (answered : Result Done CallEnd) (result : Result Outcome CallEnd) → IfOk answered (λ done. result ≡ Ok done.outcome) → IfErr answered (λ end. result ≡ Err end)
+      → Calls p.main q.main call forms.Auto answered → seen_by q.source ≡ seen_by p.source → KeepsLaw (seen_by q.main) → IfOk result (λ outcome. AnswersBy (view p) (view q) call outcome)
+  call_ok p q call (Ok done) result ok err own same law = subst (λ (r : Result Outcome CallEnd). IfOk r (λ outcome. AnswersBy (view p) (view q) call outcome)) (sym ok) (answered_by p q call done own same law)
+  call_ok p q call (Err end) result ok err own same law = subst (λ (r : Result Outcome CallEnd). IfOk r (λ outcome. AnswersBy (view p) (view q) call outcome)) (sym err) tt
+
+  pub call_err : (p q : Pass I O C D) (call : Call) (answered : Result Done CallEnd) (result : Result Outcome CallEnd) → IfOk answered (λ done. result ≡ Ok done.outcome) → IfErr answered (λ end. result ≡ Err end)
+      → Calls p.main q.main call forms.Auto answered → seen_by q.source ≡ seen_by p.source → KeepsLaw (seen_by q.main) → IfErr result (λ end. GivesUpBy (view p) (view q) call end)
+  call_err p q call (Ok done) result ok err own same law = subst (λ (r : Result Outcome CallEnd). IfErr r (λ end. GivesUpBy (view p) (view q) call end)) (sym ok) tt
+  call_err p q call (Err end) result ok err own same law = subst (λ (r : Result Outcome CallEnd). IfErr r (λ e. GivesUpBy (view p) (view q) call e)) (sym err) (given_up_by p q call end own same law)
+
+  pub submit_ok : (p q : Pass I O C D) (call : Call) (result : Result ℕ CallEnd) → Submits p.main q.main call forms.Auto result → seen_by q.source ≡ seen_by p.source → KeepsLaw (seen_by q.main) → IfOk result (λ xid. SubmitsBy (view p) (view q) call xid)
+  submit_ok p q call (Ok xid) sends same law = submitted_by p q call xid sends same law
+  submit_ok p q call (Err end) sends same law = tt
+
+  pub submit_err : (p q : Pass I O C D) (call : Call) (result : Result ℕ CallEnd) → Submits p.main q.main call forms.Auto result → seen_by q.source ≡ seen_by p.source → KeepsLaw (seen_by q.main) → IfErr result (λ end. RefusesBy (view p) (view q) call end)
+  submit_err p q call (Ok xid) sends same law = tt
+  submit_err p q call (Err end) sends same law = refused_by p q call end sends same law
+
+  pub wait_ok : (p q : Pass I O C D) (xid : ℕ) (answered : Result Done CallEnd) (result : Result Outcome CallEnd) → IfOk answered (λ done. result ≡ Ok done.outcome) → IfErr answered (λ end. result ≡ Err end)
+      → is_some (open_call_of (view p) xid) ≡ true → Waits p.main q.main xid answered → seen_by q.source ≡ seen_by p.source → KeepsLaw (seen_by q.main) → IfOk result (λ outcome. CompletesBy xid outcome (view p) (view q))
+  wait_ok p q xid (Ok done) result ok err is waits same law = subst (λ (r : Result Outcome CallEnd). IfOk r (λ outcome. CompletesBy xid outcome (view p) (view q))) (sym ok) (completed_by p q xid done is waits same law)
+  wait_ok p q xid (Err end) result ok err is waits same law = subst (λ (r : Result Outcome CallEnd). IfOk r (λ outcome. CompletesBy xid outcome (view p) (view q))) (sym err) tt
+
+  pub wait_err : (p q : Pass I O C D) (xid : ℕ) (answered : Result Done CallEnd) (result : Result Outcome CallEnd) → IfOk answered (λ done. result ≡ Ok done.outcome) → IfErr answered (λ end. result ≡ Err end)
+      → is_some (open_call_of (view p) xid) ≡ true → Waits p.main q.main xid answered → seen_by q.source ≡ seen_by p.source → KeepsLaw (seen_by q.main) → IfErr result (λ end. ForgetsBy xid end (view p) (view q))
+  wait_err p q xid (Ok done) result ok err is waits same law = subst (λ (r : Result Outcome CallEnd). IfErr r (λ end. ForgetsBy xid end (view p) (view q))) (sym ok) tt
+  wait_err p q xid (Err end) result ok err is waits same law = subst (λ (r : Result Outcome CallEnd). IfErr r (λ e. ForgetsBy xid e (view p) (view q))) (sym err) (forgotten_by p q xid end is waits same law)
+
   -- ---- The tickets, and what the pass has seen
 
   pub tickets_of_call : (p q : Pass I O C D) (call : Call) (result : Result Done CallEnd) → IsKnown (view p) → Calls p.main q.main call forms.Auto result → seen_by q.source ≡ seen_by p.source → KeepsLaw (seen_by q.main)
@@ -172,6 +203,16 @@ module _ {I O C D : Type 0} (link : I → ℕ) (left given : I → Option (List 
       → ClosesTicketOver shared_relations xid (view p) (view q)
   ticket_of_wait p q xid (Ok done) known is waits same law = ticket_of_completed (view p) (view q) xid done.outcome known (completed_by p q xid done is waits same law)
   ticket_of_wait p q xid (Err end) known is gives same law = ticket_of_forgotten (view p) (view q) xid end known (forgotten_by p q xid end is gives same law)
+
+  pub ticket_of_submit : (p q : Pass I O C D) (call : Call) (result : Result ℕ CallEnd) → IsKnown (view p) → Submits p.main q.main call forms.Auto result → seen_by q.source ≡ seen_by p.source → KeepsLaw (seen_by q.main)
+      → IfOk result (λ xid. OpensTicketOver shared_relations xid call (view p) (view q))
+  ticket_of_submit p q call (Ok xid) known sends same law = ticket_of_submitted (view p) (view q) call xid known (submitted_by p q call xid sends same law)
+  ticket_of_submit p q call (Err end) known sends same law = tt
+
+  pub tickets_of_submit : (p q : Pass I O C D) (call : Call) (result : Result ℕ CallEnd) → IsKnown (view p) → Submits p.main q.main call forms.Auto result → seen_by q.source ≡ seen_by p.source → KeepsLaw (seen_by q.main)
+      → OnErr result (KeepsTicketsOver shared_relations (view p) (view q))
+  tickets_of_submit p q call (Ok xid) known sends same law = tt
+  tickets_of_submit p q call (Err end) known sends same law = tickets_of_refused (view p) (view q) call end known (refused_by p q call end sends same law)
 
   pub seen_by_submit : (p q : Pass I O C D) (call : Call) (result : Result ℕ CallEnd) → Submits p.main q.main call forms.Auto result → Begins (seen_by p.main) (seen_by q.main)
   seen_by_submit p q call (Ok xid) sends = sends.adds.seen
@@ -188,6 +229,10 @@ module _ {I O C D : Type 0} (link : I → ℕ) (left given : I → Option (List 
 
   pub seen_by_forget : (p q : Pass I O C D) (xid : ℕ) → is_some (open_call_of (view p) xid) ≡ true → ForgetsCall p.main q.main xid → Begins (seen_by p.main) (seen_by q.main)
   seen_by_forget p q xid is forgets = let (k, (call, has)) = open_at (view p) xid is in (forgets k call has.stands has.open_place).adds.seen
+
+-- what was said of a credit is said of this answer
+pub says_credit : (h : List Entry) (has answer : Bool) → has ≡ answer → SaysCredit has h → SaysCreditOutOfMemory has h → SaysCredit answer h × SaysCreditOutOfMemory answer h
+says_credit h has answer is says says_out = subst (λ (b : Bool). SaysCredit b h × SaysCreditOutOfMemory b h) is (says, says_out)
 
 -- ---- The link between two calls
 

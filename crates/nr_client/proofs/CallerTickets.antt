@@ -1,5 +1,5 @@
 -- Which calls of a shared requester's caller are open after its calls.
-use Rattle.std.proofs.Common.{◌≡◌, ◌≢◌, ◌⊎◌, ⊎_elim, ℕ, zero, suc, ◌<◌, ◌≤◌, ◌==◌, arith, Bool, true, false, if◌then◌else◌, List, [], ◌∷◌, ◌++◌, length, Option, None, Some, is_some, refl, sym, ap, subst, ◌∙◌, append_assoc, inl, inr}
+use Rattle.std.proofs.Common.{◌≡◌, ◌⊎◌, ⊎_elim, ℕ, zero, suc, ◌≤◌, ◌==◌, arith, Bool, true, false, if◌then◌else◌, List, [], ◌∷◌, ◌++◌, length, Option, None, Some, is_some, refl, sym, ap, subst, ◌∙◌, append_assoc, inl, inr}
 use Rattle.std.proofs.lemmas.Bool.{eq-eqb, eqb-true, or_from, or_parts, cases_Bool}
 use mathlib.Core.Option.{some, none, some-injective, some-ne-none}
 use lib.ListN.{get_elem?}
@@ -17,7 +17,7 @@ use Rattle.nr_shared.specs.Draining.{AreWrites}
 use Rattle.nr_shared.specs.Histories.{IsCallAt, IsUnclosed, closes_of, submitted_call}
 use Rattle.nr_shared.proofs.Adding.{at_one}
 use Rattle.nr_shared.proofs.Asking.{asked_just, asked_on, some_same}
-use Rattle.nr_shared.proofs.Lists.{at_begin, at_below, in_either}
+use Rattle.nr_shared.proofs.Lists.{at_begin, in_either}
 use Rattle.nr_client.specs.CallerViews.{AddsTo, AnswersBy, CallerView, CompletesBy, ForgetsBy, ForgetsCallBy, ForgottenBy, GivesUpBy, HasCallAt, IsOpenAt, KeepsOpenAt, KeepsOthersAt, LooksBy, RefusesBy, SubmitsBy, is_closed, is_place, open_call_of, or_later, shared_relations, submitted_in, unclosed_call, unclosed_in}
 use Rattle.nr_client.specs.Relations.{ClosesTicketOver, KeepsTicketsOver, OpensTicketOver}
 
@@ -32,8 +32,8 @@ not_place : (k : ℕ) (o : Option ℕ) → is_place k o ≡ false → o ≡ Some
 not_place k None is closes = absurd cc
 not_place k (Some n) is closes = let same : n ≡ k = some_same n k closes in
     absurd (let wrong : true ≡ false = sym (ap (λ (m : ℕ). m == k) same ∙ eq_self k) ∙ is in cc) where
-  eq_self : (m : ℕ) → (m == m) ≡ true
-  eq_self m = eq-eqb m m refl
+      eq_self : (m : ℕ) → (m == m) ≡ true
+      eq_self m = eq-eqb m m refl
 
 other_place : (k : ℕ) (o : Option ℕ) → (o ≡ Some k → ⊥) → is_place k o ≡ false
 other_place k None apart = refl
@@ -80,20 +80,20 @@ found_at seen xid k call (e, at, is) un =
 
 found_in : (seen : List Entry) (xid : ℕ) (places : List ℕ) (call : Call) → unclosed_in seen xid places ≡ Some call → StandsIn seen xid places call
 found_in seen xid [] call is = absurd cc
-found_in seen xid (k ∷ ks) call is = by (unclosed_call seen xid k) refl is where
-  by : (o : Option Call) → unclosed_call seen xid k ≡ o → or_later o (unclosed_in seen xid ks) ≡ Some call → StandsIn seen xid (k ∷ ks) call
-  by (Some c) here found = let both = stands_at seen xid k call (here ∙ found) in record { at = k; own = (0, refl); stands = both.0; unclosed = both.1 }
-  by None here found = let later = found_in seen xid ks call found in record { at = later.at; own = (suc later.own.0, later.own.1); stands = later.stands; unclosed = later.unclosed }
+found_in seen xid (k ∷ ks) call is = by (unclosed_call seen xid k) refl is (λ found. found_in seen xid ks call found) where
+  by : (o : Option Call) → unclosed_call seen xid k ≡ o → or_later o (unclosed_in seen xid ks) ≡ Some call → (unclosed_in seen xid ks ≡ Some call → StandsIn seen xid ks call) → StandsIn seen xid (k ∷ ks) call
+  by (Some c) here found among = let both = stands_at seen xid k call (here ∙ found) in record { at = k; own = (0, refl); stands = both.0; unclosed = both.1 }
+  by None here found among = let later = among found in record { at = later.at; own = (suc later.own.0, later.own.1); stands = later.stands; unclosed = later.unclosed }
 
 some_in : (seen : List Entry) (xid : ℕ) (places : List ℕ) (k : ℕ) (call : Call) → IsIn k places → IsCallAt seen xid k call → IsUnclosed seen k → is_some (unclosed_in seen xid places) ≡ true
 some_in seen xid [] k call i is un = absurd (some-ne-none k (sym i.1))
 some_in seen xid (j ∷ ks) k call (zero, at) is un =
     let same : j ≡ k = some-injective j k at in
     ap (λ (o : Option Call). is_some (or_later o (unclosed_in seen xid ks))) (ap (unclosed_call seen xid) same ∙ found_at seen xid k call is un)
-some_in seen xid (j ∷ ks) k call (suc n, at) is un = by (unclosed_call seen xid j) where
-  by : (o : Option Call) → is_some (or_later o (unclosed_in seen xid ks)) ≡ true
-  by (Some c) = refl
-  by None = some_in seen xid ks k call (n, at) is un
+some_in seen xid (j ∷ ks) k call (suc n, at) is un = by (unclosed_call seen xid j) (some_in seen xid ks k call (n, at) is un) where
+  by : (o : Option Call) → is_some (unclosed_in seen xid ks) ≡ true → is_some (or_later o (unclosed_in seen xid ks)) ≡ true
+  by (Some c) later = refl
+  by None later = later
 
 -- the call that stands at a place is one
 one_call : (seen : List Entry) (xid k : ℕ) (c d : Call) → IsCallAt seen xid k c → IsCallAt seen xid k d → c ≡ d
@@ -150,7 +150,7 @@ no_call : (call : Call) → None ≡ Some call → ⊥
 no_call call is = absurd cc
 
 -- none of these entries submits a call
-SubmitsNone : List Entry → Type 0
+abbrev SubmitsNone : List Entry → Type 0
 SubmitsNone es = (xid : ℕ) (e : Entry) (call : Call) → IsIn e es → submitted_call xid e ≡ Some call → ⊥
 
 writes_none : (es : List Entry) → AreWrites es → SubmitsNone es
@@ -178,9 +178,9 @@ none_one e never xid f call (zero, at) is = no_call call (sym (never xid) ∙ (a
 none_one e never xid f call (suc n, at) is = some-ne-none f (sym at)
 
 none_added : (h : List Entry) (ks : List ℕ) (es : List Entry) → AreAt h ks es → SubmitsNone es → (xid k : ℕ) (call : Call) → IsIn k ks → IsCallAt h xid k call → ⊥
-none_added h ks es are none xid k call i (e, at, is) =
+none_added h ks es are silent xid k call i (e, at, is) =
     let (f, (one, there)) = at_one h ks es k are i in
-    none xid f call one (ap (submitted_call xid) (some-injective f e (sym there ∙ at)) ∙ is)
+    silent xid f call one (ap (submitted_call xid) (some-injective f e (sym there ∙ at)) ∙ is)
 
 -- of entries of which one submits a call, that stands at one place
 only_place : (h : List Entry) (ks : List ℕ) (xs ys : List Entry) (s : Entry) → AreAt h ks (xs ++ s ∷ ys) → SubmitsNone xs → SubmitsNone ys
@@ -194,10 +194,10 @@ only_place h (j ∷ ks) [] ys s are before after = (j, λ xid k call i is. by xi
 only_place h (j ∷ ks) (x ∷ xs) ys s are before after =
     let (m, later) = only_place h ks xs ys s are.1 (λ xid e call i is. before xid e call (suc i.0, i.1) is) after in
     (m, λ xid k call i is. by m later xid k call i is) where
-  by : (m : ℕ) → ((xid k : ℕ) (call : Call) → IsIn k ks → IsCallAt h xid k call → k ≡ m) → (xid k : ℕ) (call : Call) → IsIn k (j ∷ ks) → IsCallAt h xid k call → k ≡ m
-  by m later xid k call (zero, at) (e, there, is) = let same : x ≡ e = some-injective x e (sym are.0 ∙ (ap (λ (n : ℕ). get_elem? h n) (some-injective j k at) ∙ there)) in
-      absurd (before xid x call (0, refl) (ap (submitted_call xid) same ∙ is))
-  by m later xid k call (suc n, at) is = later xid k call (n, at) is
+      by : (m : ℕ) → ((xid k : ℕ) (call : Call) → IsIn k ks → IsCallAt h xid k call → k ≡ m) → (xid k : ℕ) (call : Call) → IsIn k (j ∷ ks) → IsCallAt h xid k call → k ≡ m
+      by m later xid k call (zero, at) (e, there, is) = let same : x ≡ e = some-injective x e (sym are.0 ∙ (ap (λ (n : ℕ). get_elem? h n) (some-injective j k at) ∙ there)) in
+          absurd (before xid x call (0, refl) (ap (submitted_call xid) same ∙ is))
+      by m later xid k call (suc n, at) is = later xid k call (n, at) is
 
 -- a call that was open is so in the longer history, if its place is open
 call_on : (v w : CallerView) (xid k : ℕ) (call : Call) → Begins v.seen w.seen → HasCallAt v xid k call → IsOpenAt w k → HasCallAt w xid k call
@@ -209,14 +209,14 @@ was_open v w es xid k call lies a has = ⊎_elim
     (λ (old : IsIn k v.mine). inl (record { stands = stood old has.stands; open_place = (old, unclosed_before v.seen w.seen k a.seen has.open_place.1) }))
     (λ (new : IsIn k a.places). inr new)
     (in_either v.mine a.places k (subst (IsIn k) a.mine has.open_place.0)) where
-  stood : IsIn k v.mine → IsCallAt w.seen xid k call → IsCallAt v.seen xid k call
-  stood old (e, at, is) = (e, at_begin v.seen a.seen.0 k e (lies k old) (subst (λ (l : List Entry). get_elem? l k ≡ some e) a.seen.1 at), is)
+      stood : IsIn k v.mine → IsCallAt w.seen xid k call → IsCallAt v.seen xid k call
+      stood old (e, at, is) = (e, at_begin v.seen a.seen.0 k e (lies k old) (subst (λ (l : List Entry). get_elem? l k ≡ some e) a.seen.1 at), is)
 
 -- it was, if none of the entries that were added submits a call
 open_before : (v w : CallerView) (es : List Entry) → Lies v.seen v.mine → AddsTo v w es → SubmitsNone es → (xid k : ℕ) (call : Call) → HasCallAt w xid k call → HasCallAt v xid k call
-open_before v w es lies a none xid k call has = ⊎_elim
+open_before v w es lies a silent xid k call has = ⊎_elim
     (λ (old : HasCallAt v xid k call). old)
-    (λ (new : IsIn k a.places). absurd (none_added w.seen a.places es a.at none xid k call new has.stands))
+    (λ (new : IsIn k a.places). absurd (none_added w.seen a.places es a.at silent xid k call new has.stands))
     (was_open v w es xid k call lies a has)
 
 -- it was, or it is the one call that they submit
@@ -226,13 +226,14 @@ open_or_new v w xs ys s at x c lies a before after stands new own xid k call has
     (λ (old : HasCallAt v xid k call). inl old)
     (λ (i : IsIn k a.places). inr (one.1 xid k call i has.stands ∙ sym (one.1 x at c there stands)))
     (was_open v w (xs ++ s ∷ ys) xid k call lies a has) where
-  one : (m : ℕ) × ((y j : ℕ) (d : Call) → IsIn j a.places → IsCallAt w.seen y j d → j ≡ m)
-  one = only_place w.seen a.places xs ys s a.at before after
-  there : IsIn at a.places
-  there = ⊎_elim
-      (λ (old : IsIn at v.mine). (let l = lies at old in absurd (omega (arith, l, new))))
-      (λ (i : IsIn at a.places). i)
-      (in_either v.mine a.places at (subst (IsIn at) a.mine own))
+      one : (m : ℕ) × ((y j : ℕ) (d : Call) → IsIn j a.places → IsCallAt w.seen y j d → j ≡ m)
+      one = only_place w.seen a.places xs ys s a.at before after
+
+      there : IsIn at a.places
+      there = ⊎_elim
+          (λ (old : IsIn at v.mine). (let l = lies at old in absurd (omega (arith, l, new))))
+          (λ (i : IsIn at a.places). i)
+          (in_either v.mine a.places at (subst (IsIn at) a.mine own))
 
 -- a place that an entry closes isn't open
 closed_there : (h before : List Entry) (e : Entry) (k : ℕ) → h ≡ before ++ e ∷ [] → closes_of e ≡ Some k → IsUnclosed h k → ⊥
@@ -252,8 +253,8 @@ made_and_closed v w xs ys call xid at last before known law xs_write ys_write la
     (λ (same : k ≡ at). absurd (closed_there w.seen before last k seen (closes ∙ ap Some (sym same)) has.open_place.1))
     (open_or_new v w xs (ys ++ last ∷ []) submit at xid call known.lies (subst (AddsTo v w) (append_assoc xs (submit ∷ ys) (last ∷ [])) adds) (writes_none xs xs_write)
     (none_both ys (last ∷ []) (writes_none ys ys_write) (none_one last last_none)) (submit, stands, asked_just xid call forms.Auto) new own x k c has)) where
-  submit : Entry
-  submit = entries.Submit call forms.Auto xid
+      submit : Entry
+      submit = entries.Submit call forms.Auto xid
 
 pub tickets_of_answer : (v w : CallerView) (call : Call) (outcome : Outcome) → IsKnown v → AnswersBy v w call outcome → KeepsTicketsOver shared_relations v w
 tickets_of_answer v w call outcome known a =
@@ -265,8 +266,8 @@ tickets_of_forgotten v w call end known a =
 
 -- nothing is submitted, and nothing closed
 keeps_all : (v w : CallerView) (es : List Entry) → IsKnown v → KeepsLaw w.seen → AddsTo v w es → SubmitsNone es → KeepsOpenAt v w → KeepsTicketsOver shared_relations v w
-keeps_all v w es known law adds none keeps x =
-    same_open v w x law (λ k c has. call_on v w x k c adds.seen has (keeps k has.open_place)) (λ k c has. open_before v w es known.lies adds none x k c has)
+keeps_all v w es known law adds silent keeps x =
+    same_open v w x law (λ k c has. call_on v w x k c adds.seen has (keeps k has.open_place)) (λ k c has. open_before v w es known.lies adds silent x k c has)
 
 pub tickets_of_refused : (v w : CallerView) (call : Call) (end : CallEnd) → IsKnown v → RefusesBy v w call end → KeepsTicketsOver shared_relations v w
 tickets_of_refused v w call end known r = keeps_all v w r.writes_before known r.law r.adds (writes_none r.writes_before r.are_writes_before) r.keeps
@@ -286,6 +287,7 @@ one_xid h x y k c d (e, at, is) (f, there, so) = by e is (ap (submitted_call y) 
       (λ (same : (n == z) ≡ true). eqb-true n z same)
       (λ (not : (n == z) ≡ false). absurd (no_call call (sym (ap (λ (b : Bool). if b then Some asked else None) not) ∙ is)))
       (cases_Bool (n == z))
+
   by : (g : Entry) → submitted_call x g ≡ Some c → submitted_call y g ≡ Some d → x ≡ y
   by (entries.Submit asked form n) one two = sym (under x n asked c one) ∙ under y n asked d two
   by (entries.Wrote bytes) one two = absurd (no_call c one)
@@ -317,19 +319,19 @@ ticket_of_submitted v w call xid known s =
           (λ (same : k ≡ s.at). absurd (apart (one_xid w.seen x xid k c call has.stands (subst (λ (n : ℕ). IsCallAt w.seen xid n call) (sym same) stood))))
           (open_or_new v w s.writes_before s.writes_after (entries.Submit call forms.Auto xid) s.at xid call known.lies s.adds (writes_none s.writes_before s.are_writes_before) (writes_none s.writes_after s.are_writes_after) stood s.new s.opened.0 x k c has));
     } where
-  stood : IsCallAt w.seen xid s.at call
-  stood = (entries.Submit call forms.Auto xid, s.stands, asked_just xid call forms.Auto)
+      stood : IsCallAt w.seen xid s.at call
+      stood = (entries.Submit call forms.Auto xid, s.stands, asked_just xid call forms.Auto)
 
 -- the open call of an xid is closed, and nothing is submitted
 closes_one : (v w : CallerView) (es : List Entry) (xid at : ℕ) (call : Call) → IsKnown v → KeepsLaw w.seen → HasCallAt v xid at call → AddsTo v w es → SubmitsNone es → KeepsOthersAt at v w → (IsUnclosed w.seen at → ⊥) → ClosesTicketOver shared_relations xid v w
-closes_one v w es xid at call known law had adds none keeps closed = record {
+closes_one v w es xid at call known law had adds silent keeps closed = record {
   own = none_open w xid (λ k c has.
-      (let old = open_before v w es known.lies adds none xid k c has in
+      (let old = open_before v w es known.lies adds silent xid k c has in
       let same : k ≡ at = one_place v.seen known.law xid k at c call old.stands old.open_place.1 had.stands had.open_place.1 in
       closed (subst (λ (n : ℕ). IsUnclosed w.seen n) same has.open_place.1)));
   others = λ x apart. same_open v w x law
       (λ k c has. call_on v w x k c adds.seen has (keeps k (λ same. apart (one_xid v.seen x xid k c call has.stands (subst (λ (n : ℕ). IsCallAt v.seen xid n call) (sym same) had.stands))) has.open_place))
-      (λ k c has. open_before v w es known.lies adds none x k c has);
+      (λ k c has. open_before v w es known.lies adds silent x k c has);
 }
 
 pub ticket_of_completed : (v w : CallerView) (xid : ℕ) (outcome : Outcome) → IsKnown v → CompletesBy xid outcome v w → ClosesTicketOver shared_relations xid v w

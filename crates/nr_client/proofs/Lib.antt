@@ -13,6 +13,7 @@ pub mod JobReading
 pub mod LinkRelations
 pub mod Listings
 pub mod Moves
+pub mod NumberedLinks
 pub mod Outcomes
 pub mod Pieces
 pub mod Refusals

@@ -1,5 +1,5 @@
 -- A link of one caller of a shared requester, which is dialled again if it is lost.
-use Rattle.std.specs.Prelude.{◌≡◌, true, is_some, List, [], ◌∷◌, Option}
+use Rattle.std.specs.Prelude.{◌≡◌, true, is_some, [], ◌∷◌, Option}
 use Rattle.nr_links.specs.Links.{HasOpenLink, LinkLog}
 use Rattle.nr_turnstile.specs.Passes.{seen_by}
 use Rattle.nr_shared.specs.declared.call_rule.AnyCall.{AnyCall}

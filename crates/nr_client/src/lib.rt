@@ -27,6 +27,7 @@ mod session;
 mod shared_calls;
 mod shared_link;
 mod transfer;
+mod unnumbered;
 mod walking;
 mod write_file;
 mod written_pieces;

@@ -1,9 +1,10 @@
 //! A link of one caller of a shared requester, which is dialled again if it is lost.
 
-ghost use Rattle.std.specs.Prelude.{◌≡◌, ◌<◌, ◌≤◌, IfOk, IfErr};
+ghost use Rattle.std.specs.Prelude.{◌≡◌, ◌<◌, ◌≤◌, Ok, Err, IfOk, IfErr, IfSome};
+ghost use Rattle.nr_links.specs.Links.{HasOpenLink};
 ghost use Rattle.nr_requester.specs.AfterCalls.{numbered_terms};
 ghost use Rattle.nr_shared.specs.Standing.{tries_max};
-ghost use Rattle.nr_client.specs.Numbered.{ClosesNumbered, NumberedFails, OpensNumbered};
+ghost use Rattle.nr_client.specs.Numbered.{ClosesNumbered, HangsUpLast, NumberedFails, OpensNumbered};
 
 use crate::client_end::ClientEnd;
 use crate::limits::CREDITS;
@@ -39,18 +40,38 @@ impl<'a, R, I: LinkSource, O: LinkSink, D: Dialer<Source = I, Sink = O>> Model
     ghost invariant = { λ l. IsAtRest D.ended l.shared l.pass };
 }
 
-/// The outcome of a call that was answered. The call and its buffers are dropped.
-fn outcome_of(done: Done) -> Outcome
-    ensures { result ≡ done.outcome }
+/// The outcome of a call, if it was answered. The call and its buffers are dropped.
+fn outcome_of(answered: Result<Done, CallEnd>) -> Result<Outcome, CallEnd>
+    ensures ok { IfOk answered (λ done. result ≡ Ok done.outcome) }
+    ensures err { IfErr answered (λ end. result ≡ Err end) }
 {
-    let Done {
-        call,
-        buffers,
-        outcome,
-    } = done;
-    drop(call);
-    drop(buffers);
-    outcome
+    match answered {
+        Ok(done) => {
+            let Done {
+                call,
+                buffers,
+                outcome,
+            } = done;
+            drop(call);
+            drop(buffers);
+            Ok(outcome)
+        }
+        Err(end) => Err(end),
+    }
+}
+
+/// Hangs up the link at hand, if there is one.
+fn hang_up_last<I: LinkSource, O: LinkSink, D: Dialer<Source = I, Sink = O>>(
+    link: Option<(I, O)>,
+    dialer: &mut D,
+)
+    requires { IfSome link (λ halves. (I.link halves.0 ≡ O.link halves.1) × HasOpenLink (D.ended dialer.old)) }
+    ensures { HangsUpLast I.link I.left I.given I.faults O.taken O.faults D.asked D.ended D.lost D.faults link dialer.old dialer.new }
+{
+    match link {
+        Some((source, sink)) => dialer.hang_up(source, sink),
+        None => {}
+    }
 }
 
 impl<
@@ -110,20 +131,13 @@ impl<
         let SharedLink { rt, shared, pass } = self;
         let (requester, link, mut dialer) = shared.close(rt, pass);
         drop(requester);
-        if let Some((source, sink)) = link {
-            dialer.hang_up(source, sink);
-        }
+        hang_up_last(link, &mut dialer);
         dialer
     }
 }
 
-impl<
-    'a,
-    R: Wait,
-    I: LinkSource + Drop,
-    O: LinkSink + Drop,
-    D: Dialer<Source = I, Sink = O>,
-> Calls for SharedLink<'a, R, I, O, D> {
+impl<'a, R: Wait, I: LinkSource + Drop, O: LinkSink + Drop, D: Dialer<Source = I, Sink = O>> Calls
+    for SharedLink<'a, R, I, O, D> {
     ghost use Rattle.nr_client.specs.CallerViews.{CallerView, caller_view, shared_relations};
 
     ghost View = { CallerView };
@@ -133,24 +147,16 @@ impl<
     ghost at = { λ l. caller_view I.link I.left I.given I.faults D.asked D.ended D.faults l.pass };
 
     fn call(&mut self, call: Call) -> Result<Outcome, CallEnd> {
-        match self.shared.call(self.rt, &mut self.pass, call, Form::Auto) {
-            Ok(done) => Ok(outcome_of(done)),
-            Err(end) => Err(end),
-        }
+        outcome_of(self.shared.call(self.rt, &mut self.pass, call, Form::Auto))
     }
 
     fn submit(&mut self, call: Call) -> Result<Ticket, CallEnd> {
-        match self.shared.submit(self.rt, &mut self.pass, call, Form::Auto) {
-            Ok(ticket) => Ok(ticket),
-            Err(end) => Err(end),
-        }
+        self.shared
+            .submit(self.rt, &mut self.pass, call, Form::Auto)
     }
 
     fn wait(&mut self, ticket: Ticket) -> Result<Outcome, CallEnd> {
-        match self.shared.wait(self.rt, &mut self.pass, ticket) {
-            Ok(done) => Ok(outcome_of(done)),
-            Err(end) => Err(end),
-        }
+        outcome_of(self.shared.wait(self.rt, &mut self.pass, ticket))
     }
 
     fn forget(&mut self, ticket: Ticket) {

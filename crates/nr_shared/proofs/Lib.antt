@@ -28,4 +28,6 @@ pub mod Submitting
 pub mod GivingUp
 pub mod Opened
 pub mod Closed
+pub mod Dialled
+pub mod Kept
 pub mod FeedsOn

@@ -150,6 +150,19 @@ module _ {O : Type 0} (link : O → ℕ) (taken : O → Option (List ℕ)) (faul
   pub earlier_opened : (r : RequesterSide) (sink : O) (tries : Option ℕ) (history : List Entry) → IsInitialHistory link taken faults r sink tries history → Earlier closes_of history
   earlier_opened r sink tries history o = subst (Earlier closes_of) (sym o.history_is) (earlier_first o.initial)
 
+-- the history of a requester that is never reopened
+pub begun_once : {I O D : Type 0} (source_link : I → ℕ) (link : O → ℕ) (taken : O → Option (List ℕ)) (faults : O → ℕ) (ended : D → Option LinkLog) (r : RequesterSide) (sink : O) (history : List Entry) (source : I) (dialer : D) → IsInitialHistory link taken faults r sink None history → IsBegun source_link ended history source dialer
+begun_once source_link link taken faults ended r sink history source dialer o = record {
+  initial = o.initial;
+  history_is = o.history_is;
+  same = λ some. absurd (false_true (sym (ap (λ (t : Option ℕ). is_some t) o.tries_are) ∙ some));
+  link_made = λ some. absurd (false_true (sym (ap (λ (t : Option ℕ). is_some t) o.tries_are) ∙ some));
+}
+
+-- its initial state
+pub initial_once : {O : Type 0} (link : O → ℕ) (taken : O → Option (List ℕ)) (faults : O → ℕ) (r : RequesterSide) (sink : O) (tries : Option ℕ) (history : List Entry) → IsInitialHistory link taken faults r sink tries history → (c : InitialState) × ((initial_of history ≡ Some c) × (tries_of history ≡ tries))
+initial_once link taken faults r sink tries history o = (o.initial, (ap (λ (h : List Entry). initial_of h) o.history_is, ap (λ (h : List Entry). tries_of h) o.history_is ∙ o.tries_are))
+
 -- of a history of one entry, the initial state
 pub earlier_begun : {I D : Type 0} (link : I → ℕ) (ended : D → Option LinkLog) (history : List Entry) (source : I) (dialer : D) → IsBegun link ended history source dialer → Earlier closes_of history
 earlier_begun link ended history source dialer o = subst (Earlier closes_of) (sym o.history_is) (earlier_first o.initial)

@@ -1,6 +1,6 @@
 //! A requester is shared, and given back.
 
-ghost use Rattle.std.specs.Prelude.{◌≡◌, ◌≢◌, ◌<◌, ◌≤◌, [], ◌∷◌, List, None, Some, IfOk, IfErr};
+ghost use Rattle.std.specs.Prelude.{◌≡◌, ◌≢◌, ◌<◌, ◌≤◌, [], ◌∷◌, List, None, Some, IfSome, IfOk, IfErr};
 ghost use Rattle.std.specs.String.{string_bytes};
 ghost use Rattle.nr_outside.specs.Faults.{last_count};
 ghost use Rattle.nr_link.specs.declared.end.End.TheVariants as ends;
@@ -11,7 +11,8 @@ ghost use Rattle.nr_shared.specs.declared.source_reader.InitialSource.{InitialSo
 ghost use Rattle.nr_shared.specs.Callers.{IsCaller};
 ghost use Rattle.nr_shared.specs.Feeding.{FeedsFor, address_of};
 ghost use Rattle.nr_shared.specs.Opening.{GivesBack, IsInitialHistory};
-ghost use Rattle.nr_shared.specs.Numbered.{IsBegun, IsNotShared, NumberedOpened, NumberedRefused};
+ghost use Rattle.nr_links.specs.Links.{HasOpenLink};
+ghost use Rattle.nr_shared.specs.Numbered.{HangsUpBack, IsBegun, IsNotShared, NumberedOpened, NumberedRefused};
 ghost use Rattle.nr_shared.specs.Standing.{Stands, bytes_before};
 ghost use Rattle.nr_shared.specs.private.Reading.{both};
 ghost use Rattle.nr_shared.specs.declared.no_dialer.NoDialer.{NoDialer};
@@ -140,7 +141,8 @@ fn both_halves<I: Drop, O: Drop>(source: Option<I>, sink: Option<O>) -> Option<(
 {
     match (source, sink) {
         (Some(source), Some(sink)) => Some((source, sink)),
-        _ => None,
+        (None, _) => None,
+        (Some(_), None) => None,
     }
 }
 
@@ -269,14 +271,10 @@ impl<I: LinkSource + Drop, O: LinkSink + Drop, C: CallRule> SharedRequester<
         ensures err { IfErr result (λ back. (d : NoDialer I O) × ((e : NoDialer I O) × GivesBack I.link I.left I.given I.faults O.link O.taken O.faults (λ _. None) (λ _. None) (λ _. last_count) C.allows H.history [] source d [] read back.0 (Some (back.1, back.2)) e)) }
     {
         let with_sink = RequesterWithSink::of_parts(requester, sink, None);
+        let dialer = NoDialer::new();
+        let addr = String::new(alloc);
         match share::<H, R, I, O, C, NoDialer<I, O>>(
-            rt,
-            alloc,
-            with_sink,
-            source,
-            NoDialer::new(),
-            String::new(alloc),
-            read,
+            rt, alloc, with_sink, source, dialer, addr, read,
         ) {
             Ok(opened) => Ok(opened),
             Err((requester, link, _)) => match link {
@@ -284,6 +282,20 @@ impl<I: LinkSource + Drop, O: LinkSink + Drop, C: CallRule> SharedRequester<
                 None => unreachable!(),
             },
         }
+    }
+}
+
+/// Hangs up a link that came back, if there is one.
+fn hang_up_back<I: LinkSource, O: LinkSink, D: Dialer<Source = I, Sink = O>>(
+    link: Option<(I, O)>,
+    dialer: &mut D,
+)
+    requires { IfSome link (λ halves. (I.link halves.0 ≡ O.link halves.1) × HasOpenLink (D.ended dialer.old)) }
+    ensures { HangsUpBack I.link I.left I.given O.taken D.asked D.ended D.faults link dialer.old dialer.new }
+{
+    match link {
+        Some((source, sink)) => dialer.hang_up(source, sink),
+        None => {}
     }
 }
 
@@ -316,9 +328,7 @@ fn share_dialled<
     match share::<InitialHistory<K>, R, I, O, C, D>(rt, alloc, with_sink, source, dialer, addr, 0) {
         Ok(opened) => Ok(opened),
         Err((requester, link, mut dialer)) => {
-            if let Some((source, sink)) = link {
-                dialer.hang_up(source, sink);
-            }
+            hang_up_back(link, &mut dialer);
             Err(NotShared::Memory(requester, dialer))
         }
     }
@@ -355,9 +365,14 @@ impl<
             return Err(NotShared::Memory(requester, dialer));
         };
         match dialer.dial(addr) {
-            Ok((source, sink)) => share_dialled::<Brand, R, I, O, C, D>(
-                rt, alloc, requester, source, sink, dialer, kept, tries,
-            ),
+            Ok((source, sink)) => {
+                match share_dialled::<Brand, R, I, O, C, D>(
+                    rt, alloc, requester, source, sink, dialer, kept, tries,
+                ) {
+                    Ok(opened) => Ok(opened),
+                    Err(refused) => Err(refused),
+                }
+            }
             Err(_) => Err(NotShared::DialFault(requester, dialer)),
         }
     }
