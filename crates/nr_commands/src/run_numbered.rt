@@ -105,7 +105,8 @@ pub fn run_numbered<
         (source_at (N.left input.old) (N.given input.old) (N.faults input.old)) (source_at (N.left input.new) (N.given input.new) (N.faults input.new))
         (sink_at (K.taken out.old) (K.faults out.old)) (sink_at (K.taken out.new) (K.faults out.new)) result }
 {
-    let (result, _dial) =
-        run_lent::<Brand, R, P, Q, D, N, K>(rt, alloc, numbered, dial, input, out);
+    let (result, _dial) = run_lent::<Brand, R, P, Q, D, N, K>(
+        rt, alloc, numbered, dial, input, out,
+    );
     result
 }

@@ -54,5 +54,5 @@ pub has_numbers : (command : Command (Bor Text)) (client : NumberedClient (Bor T
     → (0 < client.number) × (client.tries ≤ tries_max)
 has_numbers command client is possible =
     let both = both_of (is_client (plain_client client.client)) (is_number client.number) (are_tries client.tries)
-        (subst (λ (k : Command (Bor Text)). is_command (plain_command k) ≡ true) is possible) in
+    (subst (λ (k : Command (Bor Text)). is_command (plain_command k) ≡ true) is possible) in
     few_numbers client.number client.tries both.0 both.1
