@@ -37,7 +37,6 @@ use Rattle.nr_shared.specs.LinkStanding.{IsLiveOn, IsOutOn}
 use Rattle.nr_shared.specs.Marks.{IsLive as IsSharedLive}
 use Rattle.nr_shared.specs.Standing.{OnHistory, RejoinsWithin, RepresentsHistoryIf, is_out_of_memory}
 use Rattle.nr_shared.proofs.Histories.{initial_more}
-use Rattle.nr_shared.proofs.OneBack.{moved_over_one}
 use Rattle.nr_shared.proofs.OneLink.{on_one_link}
 use Rattle.nr_shared.specs.declared.call_end.CallEnd.TheVariants as calls
 use Rattle.nr_client.specs.declared.client_end.ClientEnd.{ClientEnd}
@@ -66,6 +65,7 @@ use Rattle.nr_service_laws.proofs.OneCall.{does_answers}
 use Rattle.nr_service_laws.proofs.Parts.{has_finds, has_request}
 use Rattle.nr_pair_laws.specs.JobRuns.{IsJobMark, IsJobsRun, JobsHaveARun, SaysOfFile}
 use Rattle.nr_pair_laws.proofs.JobBytes.{history_fed, history_received, history_sent}
+use Rattle.nr_pair_laws.proofs.OneBack.{moved_over_one}
 
 -- ---- Its marks
 

@@ -21,6 +21,7 @@ pub mod Kept
 pub mod LongerJournals
 pub mod Mounts
 pub mod Numbers
+pub mod OneBack
 pub mod Pairs
 pub mod Paths
 pub mod PlacedCalls
