@@ -302,7 +302,7 @@ impl<L: Calls> Session<L> {
 
 impl<I: LinkSource + Drop, O: LinkSink + Drop> Session<Link<I, O>> {
     /// As `read_file`, by several jobs, 1 to 16, each in a thread of its own if there is one. The session ends: its source and its sink come back.
-    /// At most 2 pieces of each job, of 1048576 bytes, are held ahead of what was written.
+    /// At most one piece of each job, of 1048576 bytes, is held ahead of what was written.
     pub fn read_file_by_jobs<R: Threads + Wait + Sync, K: Sink>(
         self,
         rt: &R,
