@@ -26,6 +26,7 @@ mod results;
 mod session;
 mod shared_calls;
 mod transfer;
+mod unnumbered;
 mod walking;
 mod write_file;
 mod written_pieces;

@@ -30,6 +30,7 @@ use crate::read_file::read_file_over;
 use crate::requests::{
     getattr_call, lookup_call, mkdir_call, readlink_call, remove_call, symlink_call,
 };
+use crate::unnumbered::{UnnumberedSink, UnnumberedSource};
 use crate::walking::{walk_over, walk_to_parent_over};
 use crate::write_file::write_file_over;
 use nr_links::{Dialer, LinkNumber, LinkSink, LinkSource, NumberedSink, NumberedSource};
@@ -300,7 +301,7 @@ impl<L: Calls> Session<L> {
     }
 }
 
-impl<I: LinkSource + Drop, O: LinkSink + Drop> Session<Link<I, O>> {
+impl<I: Source, O: Sink> Session<Link<I, O>> {
     /// As `read_file`, by several jobs, 1 to 16, each in a thread of its own if there is one. The session ends: its source and its sink come back.
     /// At most one piece of each job, of 1048576 bytes, is held ahead of what was written.
     pub fn read_file_by_jobs<R: Threads + Wait + Sync, K: Sink>(
@@ -311,8 +312,8 @@ impl<I: LinkSource + Drop, O: LinkSink + Drop> Session<Link<I, O>> {
         out: &mut K,
     ) -> (Result<(), ClientEnd>, I, O)
     where
-        I: Send,
-        O: Send,
+        I: Drop + Send,
+        O: Drop + Send,
         requires { (0 < jobs) × (jobs ≤ jobs_max) }
         ensures reads { ReadsFileByJobs self.uid self.gid file.now
             (link_at self.link.requester (source_at (I.left self.link.source) (I.given self.link.source) (I.faults self.link.source)) (sink_at (O.taken self.link.sink) (O.faults self.link.sink)) self.link.read)
@@ -342,6 +343,16 @@ impl<I: LinkSource + Drop, O: LinkSink + Drop> Session<Link<I, O>> {
             size,
             jobs,
         };
-        read_shared::<Brand, Brand, R, I, O, K>(rt, link, &file, out)
+        let (result, source, sink) = read_shared::<
+            Brand,
+            Brand,
+            R,
+            UnnumberedSource<I>,
+            UnnumberedSink<O>,
+            K,
+        >(rt, link, &file, out);
+        let UnnumberedSource { source } = source;
+        let UnnumberedSink { sink } = sink;
+        (result, source, sink)
     }
 }
