@@ -8,6 +8,7 @@ use Rattle.nr_links.specs.Links.{HasOpenLink, IsNewLink, IsNumbered, IsTold, Lin
 use Rattle.nr_reduce.specs.declared.call.Call.{Call}
 use Rattle.nr_reduce.specs.declared.call.Form.{Form}
 use Rattle.nr_requester.specs.RequesterState.{RequesterSide}
+use Rattle.nr_turnstile.specs.Passes.{mine_of, seen_by}
 use Rattle.nr_requester.specs.Fed.{fed_bytes}
 use Rattle.nr_shared.specs.declared.entry.Entry.{Entry}
 use Rattle.nr_shared.specs.declared.entry.Entry.TheVariants as entries
@@ -15,8 +16,11 @@ use Rattle.nr_shared.specs.declared.entry.InitialSink.{InitialSink}
 use Rattle.nr_shared.specs.declared.entry.InitialState.{InitialState}
 use Rattle.nr_shared.specs.declared.opening.NotShared.{NotShared}
 use Rattle.nr_shared.specs.declared.opening.NotShared.TheVariants as not_shared
+use Rattle.nr_shared.specs.declared.shared.Pass.{Pass}
+use Rattle.nr_shared.specs.declared.source_reader.InitialSource.{InitialSource}
+use Rattle.nr_shared.specs.Feeding.{address_of}
 use Rattle.nr_shared.specs.Histories.{initial_of, tries_in, tries_of}
-use Rattle.nr_shared.specs.Numbered.{GivesUpDialled, HangsUpBack, IsBegun, IsNotShared, NumberedRefused}
+use Rattle.nr_shared.specs.Numbered.{GivesUpDialled, HangsUpBack, IsBegun, IsNotShared, NumberedOpened, NumberedRefused}
 use Rattle.nr_shared.specs.Opening.{GivesBack, IsInitialHistory}
 use Rattle.nr_shared.specs.Standing.{bytes_before}
 use Rattle.nr_shared.proofs.Closed.{back_open}
@@ -58,12 +62,12 @@ module _ {I O D : Type 0} (link : I → ℕ) (left given : I → Option (List �
       (begun.link_made (ap (λ (c : Option InitialState). is_some (tries_in c)) (ap (λ (h : List Entry). initial_of h) (sym begun.history_is ∙ o.history_is)) ∙ ap (λ (t : Option ℕ). is_some t) o.tries_are)) back
 
   -- memory ran out after the dial
-  pub not_dialled : (r : RequesterSide) (dialer dialled : D) (addr : List ℕ) (tries : ℕ) (source : I) (sink : O) (why : NotShared D) → IsNewLink (given source) (taken sink) (source_faults source) (sink_faults sink) → Asks (asked dialer) (asked dialled) addr
+  not_shared_at : (r : RequesterSide) (dialer dialled : D) (addr : List ℕ) (tries : ℕ) (source : I) (sink : O) (why : NotShared D) → IsNewLink (given source) (taken sink) (source_faults source) (sink_faults sink) → Asks (asked dialer) (asked dialled) addr
       → MakesLink (ended dialer) (ended dialled) → dialer_faults dialled ≡ dialer_faults dialer
       → NumberedRefused link left given source_faults sink_link taken sink_faults asked ended dialer_faults allows (entries.Initial (dialled_state sink_link taken sink_faults r sink tries) ∷ []) source dialled addr why
       → IsNotShared link left given source_faults sink_link taken sink_faults asked ended dialer_faults allows r dialer addr tries why
-  not_dialled r dialer dialled addr tries source sink (not_shared.DialFault r' dialer') new asks made counted refused = absurd refused
-  not_dialled r dialer dialled addr tries source sink (not_shared.Memory r' dialer') new asks made counted refused = inr (record {
+  not_shared_at r dialer dialled addr tries source sink (not_shared.DialFault r' dialer') new asks made counted refused = absurd refused
+  not_shared_at r dialer dialled addr tries source sink (not_shared.Memory r' dialer') new asks made counted refused = inr (record {
     sink = dialled_sink sink_link taken sink_faults sink;
     source = source;
     dialled = dialled;
@@ -73,3 +77,35 @@ module _ {I O D : Type 0} (link : I → ℕ) (left given : I → Option (List �
     counted = counted;
     gives_up = refused;
   })
+
+  -- `kept` is the copy of the address
+  pub not_dialled : (r : RequesterSide) (dialer dialled : D) (addr kept : List ℕ) (tries : ℕ) (source : I) (sink : O) (why : NotShared D) → kept ≡ addr → IsNewLink (given source) (taken sink) (source_faults source) (sink_faults sink) → Asks (asked dialer) (asked dialled) addr
+      → MakesLink (ended dialer) (ended dialled) → dialer_faults dialled ≡ dialer_faults dialer
+      → NumberedRefused link left given source_faults sink_link taken sink_faults asked ended dialer_faults allows (entries.Initial (dialled_state sink_link taken sink_faults r sink tries) ∷ []) source dialled kept why
+      → IsNotShared link left given source_faults sink_link taken sink_faults asked ended dialer_faults allows r dialer addr tries why
+  not_dialled r dialer dialled addr kept tries source sink why same new asks made counted refused =
+      not_shared_at r dialer dialled addr tries source sink why new asks made counted
+      (subst (λ (a : List ℕ). NumberedRefused link left given source_faults sink_link taken sink_faults asked ended dialer_faults allows (entries.Initial (dialled_state sink_link taken sink_faults r sink tries) ∷ []) source dialled a why) same refused)
+
+-- it is shared
+pub opened_dialled : {I O C D : Type 0} (link : I → ℕ) (left given : I → Option (List ℕ)) (source_faults : I → ℕ) (sink_link : O → ℕ) (taken : O → Option (List ℕ)) (sink_faults : O → ℕ) (asked : D → Option (List (List ℕ))) (ended : D → Option LinkLog) (dialer_faults : D → ℕ)
+    (r : RequesterSide) (dialer dialled : D) (addr : List ℕ) (tries : ℕ) (source : I) (sink : O) (pass : Pass I O C D) (b : InitialSource I O C D)
+    → seen_by pass.main ≡ entries.Initial (dialled_state sink_link taken sink_faults r sink tries) ∷ [] → mine_of pass.main ≡ [] → seen_by pass.source ≡ b ∷ []
+    → b.source.value ≡ source → b.dialer.value ≡ dialled → address_of b ≡ addr → b.read ≡ 0
+    → link source ≡ sink_link sink → IsNewLink (given source) (taken sink) (source_faults source) (sink_faults sink) → IsTold (ended dialled) (given source) (left source) (taken sink) → Asks (asked dialer) (asked dialled) addr
+    → MakesLink (ended dialer) (ended dialled) → dialer_faults dialled ≡ dialer_faults dialer → NumberedOpened link left given source_faults asked ended dialer_faults r dialer addr tries pass
+opened_dialled {I} {O} {C} {D} link left given source_faults sink_link taken sink_faults asked ended dialer_faults r dialer dialled addr tries source sink pass b seen mine at is_source is_dialer address unread same new told asks made counted = record {
+  sink = dialled_sink sink_link taken sink_faults sink;
+  seen = seen;
+  mine = mine;
+  first = b;
+  source = at;
+  same = subst (λ (i : I). link i ≡ sink_link sink) (sym is_source) same;
+  new = subst (λ (i : I). IsNewLink (given i) (taken sink) (source_faults i) (sink_faults sink)) (sym is_source) new;
+  told = subst (λ (d : D). IsTold (ended d) (given b.source.value) (left b.source.value) (taken sink)) (sym is_dialer) (subst (λ (i : I). IsTold (ended dialled) (given i) (left i) (taken sink)) (sym is_source) told);
+  unread = unread;
+  dialled = subst (λ (d : D). Asks (asked dialer) (asked d) addr) (sym is_dialer) asks;
+  made = subst (λ (d : D). MakesLink (ended dialer) (ended d)) (sym is_dialer) made;
+  counted = subst (λ (d : D). dialer_faults d ≡ dialer_faults dialer) (sym is_dialer) counted;
+  address = address;
+}

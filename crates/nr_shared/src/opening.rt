@@ -271,14 +271,10 @@ impl<I: LinkSource + Drop, O: LinkSink + Drop, C: CallRule> SharedRequester<
         ensures err { IfErr result (λ back. (d : NoDialer I O) × ((e : NoDialer I O) × GivesBack I.link I.left I.given I.faults O.link O.taken O.faults (λ _. None) (λ _. None) (λ _. last_count) C.allows H.history [] source d [] read back.0 (Some (back.1, back.2)) e)) }
     {
         let with_sink = RequesterWithSink::of_parts(requester, sink, None);
+        let dialer = NoDialer::new();
+        let addr = String::new(alloc);
         match share::<H, R, I, O, C, NoDialer<I, O>>(
-            rt,
-            alloc,
-            with_sink,
-            source,
-            NoDialer::new(),
-            String::new(alloc),
-            read,
+            rt, alloc, with_sink, source, dialer, addr, read,
         ) {
             Ok(opened) => Ok(opened),
             Err((requester, link, _)) => match link {
@@ -369,9 +365,14 @@ impl<
             return Err(NotShared::Memory(requester, dialer));
         };
         match dialer.dial(addr) {
-            Ok((source, sink)) => share_dialled::<Brand, R, I, O, C, D>(
-                rt, alloc, requester, source, sink, dialer, kept, tries,
-            ),
+            Ok((source, sink)) => {
+                match share_dialled::<Brand, R, I, O, C, D>(
+                    rt, alloc, requester, source, sink, dialer, kept, tries,
+                ) {
+                    Ok(opened) => Ok(opened),
+                    Err(refused) => Err(refused),
+                }
+            }
             Err(_) => Err(NotShared::DialFault(requester, dialer)),
         }
     }

@@ -31,7 +31,7 @@ returns-clause-reads g c = λ b f home. (
     let t = c.take_turn-turn.ensures.got.1 in let s = c.args.reader.now in let d = pass_of c.drain_under.new.turn in let i = c.input_or_link_under-needs_input in let u = pass_of i.new.turn in let z = c.put_back.new.self.1.0 in
     let al = alone g.O.LinkSink.link g.O.Sink.taken g.O.Sink.faults g.C.CallRule.allows c.take_turn-turn.result.turnstile.now s.pass (pass_of c.take_turn-turn.result) t.0 f.lies t t.2 f.feeding in
     let be = alone_writes (pass_of c.take_turn-turn.result) d c.drain_under.ensures.wrote t.7 al.feeding in
-    let same = c.reader-1.given.1 (sym (i.ensures.same.1 ∙ (c.drain_under.ensures.same.1 ∙ c.take_turn-turn.ensures.borrow))) in
+    let same = c.pass-1.given.1 (sym (i.ensures.same.1 ∙ (c.drain_under.ensures.same.1 ∙ c.take_turn-turn.ensures.borrow))) in
     let drained = reads_turned g.I.LinkSource.link g.I.Source.left g.I.Source.given g.I.Source.faults g.D.Dialer.asked g.D.Dialer.ended g.D.Dialer.faults b s.source s.dialer s.read (seen_by s.pass) (seen_by d)
     (of_feeds g.I.LinkSource.link g.I.Source.left g.I.Source.given g.I.Source.faults g.D.Dialer.asked g.D.Dialer.ended g.D.Dialer.faults b s f) (ap tries_in (be.initial_is ∙ al.initial_is)) (be.bytes ∙ al.bytes) (be.part ∙ al.part) in
     let after = reads_after g.I.LinkSource.link g.I.Source.left g.I.Source.given g.I.Source.faults g.O.LinkSink.link g.O.Sink.taken g.O.Sink.faults g.D.Dialer.asked g.D.Dialer.ended g.D.Dialer.faults b s.source i.new.source s.dialer i.new.dialer s.read (seen_by d) (seen_by u) _
@@ -46,5 +46,5 @@ returns-clause-reads g c = λ b f home. (
 
 pub returns-clause-needs_input : goal.returns-clause-needs_input
 returns-clause-needs_input g c = λ is. (let i = c.input_or_link_under-needs_input in
-    subst (λ (p : Pass (RequesterWithSink g.row.O.Denot g.row.C.Denot) Entry). MayFeed (seen_by p)) (sym (c.reader-1.given.1 (sym (i.ensures.same.1 ∙ (c.drain_under.ensures.same.1 ∙ c.take_turn-turn.ensures.borrow)))))
+    subst (λ (p : Pass (RequesterWithSink g.row.O.Denot g.row.C.Denot) Entry). MayFeed (seen_by p)) (sym (c.pass-1.given.1 (sym (i.ensures.same.1 ∙ (c.drain_under.ensures.same.1 ∙ c.take_turn-turn.ensures.borrow)))))
     (subst (λ (l : List Entry). MayFeed l) (sym c.put_back.ensures.1) (i.ensures.input is).1))
