@@ -6,6 +6,7 @@ pub mod Bytes
 pub mod Calls
 pub mod Changed
 pub mod Created
+pub mod FaultCounts
 pub mod FileReads
 pub mod FileWrites
 pub mod FirstTrees
