@@ -3,13 +3,13 @@
 use nr_links::{LinkSink, LinkSource};
 use nr_outside::{Failed, Sink, Source};
 
-/// A source as that of a link, whose number is 0: a requester whose link isn't dialled again has no other.
+/// A source as that of link 0. Its requester has no other link, since it isn't dialled again.
 #[derive(Drop)]
 pub(crate) struct UnnumberedSource<I: Source> {
     pub(crate) source: I,
 }
 
-/// A sink as that of a link, whose number is 0: a requester whose link isn't dialled again has no other.
+/// A sink as that of link 0. Its requester has no other link, since it isn't dialled again.
 #[derive(Drop)]
 pub(crate) struct UnnumberedSink<O: Sink> {
     pub(crate) sink: O,
