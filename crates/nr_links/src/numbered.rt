@@ -98,23 +98,3 @@ impl<K: LinkSink, N: LinkNumber> Sink for NumberedSink<K, N> {
         self.sink.write_link_vectored(head, body)
     }
 }
-
-impl<S: LinkSource, N: LinkNumber> LinkSource for NumberedSource<S, N> {
-    ghost link = { λ n. N.number };
-
-    fn read_link(&mut self, buf: &mut [u8]) -> Result<usize, Failed> {
-        self.source.read_link(buf)
-    }
-}
-
-impl<K: LinkSink, N: LinkNumber> LinkSink for NumberedSink<K, N> {
-    ghost link = { λ n. N.number };
-
-    fn write_link(&mut self, piece: &[u8]) -> Result<usize, Failed> {
-        self.sink.write_link(piece)
-    }
-
-    fn write_link_vectored(&mut self, head: &[u8], body: &[u8]) -> Result<usize, Failed> {
-        self.sink.write_link_vectored(head, body)
-    }
-}
