@@ -38,7 +38,7 @@ enum Answer {
 
 /// A caller: its pass, the first number that it reads, and how many it reads; what these READs came to.
 #[derive(Drop)]
-struct Reader<I: LinkSource, O: LinkSink> {
+struct Reader<I: LinkSource + Drop, O: LinkSink + Drop> {
     pass: Pass<I, O, AnyCall>,
     first: u32,
     count: u32,
