@@ -38,7 +38,7 @@ enum Answer {
 
 /// A caller: its pass, the first number that it reads, and how many it reads; what these READs came to.
 #[derive(Drop)]
-struct Reader<I: LinkSource, O: LinkSink> {
+struct Reader<I: LinkSource + Drop, O: LinkSink + Drop> {
     pass: Pass<I, O, AnyCall>,
     first: u32,
     count: u32,
@@ -198,9 +198,6 @@ fn share<K: Appended, R: Wait, I: LinkSource + Drop, O: LinkSink + Drop>(
     source: I,
     sink: O,
 ) -> Option<(SharedRequester<I, O, AnyCall>, Pass<I, O, AnyCall>)>
-where
-    I: Drop,
-    O: Drop,
     requires { IsInitialHistory O.link O.taken O.faults requester sink None (K.entry ∷ []) }
     ensures { IfSome result (λ t. SharedRests t.0 t.1) }
 {
@@ -217,8 +214,8 @@ fn read_over<R: Threads + Wait + Sync, I: LinkSource + Drop, O: LinkSink + Drop>
     count: u32,
 ) -> Option<(u64, u64)>
 where
-    I: Drop + Send,
-    O: Drop + Send,
+    I: Send,
+    O: Send,
     requires { 0 < threads }
 {
     let requester = match Requester::open(alloc, CREDITS) {

@@ -39,7 +39,7 @@ pub(crate) enum Failure {
 
 /// The shared requester, with the pass of a connection and the end that the last remote call made.
 #[derive(Drop)]
-pub(crate) struct ForwardedCalls<'a, I: LinkSource, O: LinkSink, R> {
+pub(crate) struct ForwardedCalls<'a, I: LinkSource + Drop, O: LinkSink + Drop, R> {
     pub(crate) rt: &'a R,
     pub(crate) remote: &'a SharedRequester<I, O, AnyCall>,
     pub(crate) pass: &'a mut Pass<I, O, AnyCall>,

@@ -18,7 +18,7 @@ use std::sync::{Arc, Wait};
 
 /// The shared requester, with the pass of a caller.
 #[derive(Drop)]
-pub(crate) struct GatedLinks<'a, 'b, J: LinkSource, K: LinkSink, R> {
+pub(crate) struct GatedLinks<'a, 'b, J: LinkSource + Drop, K: LinkSink + Drop, R> {
     pub(crate) rt: &'a R,
     pub(crate) alloc: Global,
     pub(crate) remote: &'a Arc<SharedRequester<J, K, AnyCall>, Global>,

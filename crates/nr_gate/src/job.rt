@@ -18,7 +18,7 @@ use std::sync::Wait;
 
 /// One connection of a gateway, with all that it uses. The source and the sink are those of one link.
 #[derive(Drop)]
-pub struct GateJob<I: LinkSource, O: LinkSink, J: LinkSource, K: LinkSink, R> {
+pub struct GateJob<I: LinkSource, O: LinkSink, J: LinkSource + Drop, K: LinkSink + Drop, R> {
     pub rt: R,
     pub alloc: Global,
     pub source: I,
@@ -29,7 +29,7 @@ pub struct GateJob<I: LinkSource, O: LinkSink, J: LinkSource, K: LinkSink, R> {
 
 /// What is left of a connection of a gateway.
 #[derive(Drop)]
-pub struct GateCarried<I, O, J: LinkSource, K: LinkSink> {
+pub struct GateCarried<I, O, J: LinkSource + Drop, K: LinkSink + Drop> {
     pub source: I,
     pub sink: O,
     pub pass: Pass<J, K, AnyCall>,

@@ -13,7 +13,7 @@ use std::sync::Arc;
 /// A share of a shared requester, with a pass of it. The pass is a caller's, and is outside of its turns. Contracts see the requester
 /// and the pass.
 #[derive(Drop)]
-pub struct RemoteCaller<J: LinkSource, K: LinkSink> {
+pub struct RemoteCaller<J: LinkSource + Drop, K: LinkSink + Drop> {
     remote: Arc<SharedRequester<J, K, AnyCall>, Global>,
     pass: Pass<J, K, AnyCall>,
 }
