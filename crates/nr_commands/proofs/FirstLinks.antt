@@ -71,7 +71,7 @@ asked reads call v w result (inr (inr (is, before))) = same v w before
 
 made : {A : Type 0} (request : List Outcome → Next A) (outcomes : List Outcome) (v w : CallerView) → MakesCallsOver shared_relations request outcomes v w → Keeps v w
 made request [] v w h = same v w h
-made request (outcome ∷ outcomes) v w (call, (mid, (is, (a, more)))) = made (λ later. request (outcome ∷ later)) outcomes mid w more ∙ answered v mid call outcome a
+made request (outcome ∷ outcomes) v w (call, mid, (is, (a, more))) = made (λ later. request (outcome ∷ later)) outcomes mid w more ∙ answered v mid call outcome a
 
 unanswered : (call : Call) (v w : CallerView) (end : ClientEnd) → UnansweredOver shared_relations call v w end → Keeps v w
 unanswered call v w end (inl (cause, (is, g))) = given_up v w call cause g

@@ -1,6 +1,6 @@
 -- What is given back of a shared link, told of what is known of its source, its sink and its dialer.
-use Rattle.std.proofs.Common.{◌≡◌, ⊤, ℕ, List, [], ◌∷◌, Option, None, Some, inl, inr, refl, ap, subst}
-use Rattle.std.specs.Prelude.{Bool, ◌⊎◌, is_some, option_map}
+use Rattle.std.proofs.Common.{◌≡◌, ℕ, List, [], ◌∷◌, Option, None, Some, inl, inr, refl, ap, subst}
+use Rattle.std.specs.Prelude.{⊤, Bool, is_some, option_map}
 use Rattle.nr_link.specs.declared.agreement.SideTerms.{SideTerms}
 use Rattle.nr_links.specs.Links.{LinkLog}
 use Rattle.nr_reduce.specs.declared.call.Call.{Call}
@@ -50,7 +50,7 @@ GivesBackView seen mine source dialed addr read r link between =
     GivesBack {I = SourceView} {O = SinkView} {D = DialerAt} (λ s. s.link) (λ s. s.left) (λ s. s.given) (λ s. s.faults) (λ k. k.link) (λ k. k.taken) (λ k. k.faults) (λ d. d.asked) (λ d. d.ended) (λ d. d.faults)
     (λ call form. ⊤) seen mine source dialed addr read r link between
 
-GivesLinkView : (numbered told : Bool) → InitialGiving → ℕ → Option (SourceView × SinkView) → Option InitialSink → List Entry → Type 0
+abbrev GivesLinkView : (numbered told : Bool) → InitialGiving → ℕ → Option (SourceView × SinkView) → Option InitialSink → List Entry → Type 0
 GivesLinkView numbered told shared read link initial history =
     GivesLink {I = SourceView} {O = SinkView} (λ s. s.link) (λ s. s.left) (λ s. s.given) (λ s. s.faults) (λ k. k.link) (λ k. k.taken) (λ k. k.faults) numbered told shared read link initial history
 
@@ -166,7 +166,7 @@ pub view_fails : {I O D : Type 0} (k : Known I O D) (tries : ℕ) (terms : SideT
     tries terms addr (dialer_view k dialer) end (dialer_view k dialer')
 view_fails k tries terms addr dialer client.DialFault dialer' h = h
 view_fails k tries terms addr dialer client.Memory dialer' (inl same) = inl (ap (dialer_view k) same)
-view_fails k tries terms addr dialer client.Memory dialer' (inr (r, (back, (new, gives)))) = inr (r, (back, (new, view_dialled k r dialer addr tries back dialer' gives)))
+view_fails k tries terms addr dialer client.Memory dialer' (inr (r, back, (new, gives))) = inr (r, back, (new, view_dialled k r dialer addr tries back dialer' gives))
 view_fails k tries terms addr dialer (client.Link end) dialer' h = h
 view_fails k tries terms addr dialer (client.Rpc kind code) dialer' h = h
 view_fails k tries terms addr dialer (client.Mount status) dialer' h = h

@@ -10,12 +10,12 @@ mod ending;
 mod files;
 mod finding;
 mod lent_dialer;
+mod numbered;
 mod printing;
 mod run;
-mod run_numbered;
 mod texts;
 
 pub use by_jobs::get_by_jobs;
 pub use ending::end_text;
 pub use run::run_command;
-pub use run_numbered::run_numbered;
+pub use numbered::run_numbered;

@@ -1,6 +1,6 @@
 //! A command of a client with a number, from its words to its end.
 
-ghost use Rattle.std.specs.Prelude.{◌≡◌, ◌<◌, ◌≤◌};
+ghost use Rattle.std.specs.Prelude.{◌≡◌, ◌<◌, ◌≤◌, Err};
 ghost use Rattle.nr_outside.specs.Streams.{sink_at, source_at};
 ghost use Rattle.nr_words.specs.Lines.{plain_numbered};
 ghost use Rattle.nr_words.specs.Limits.{tries_max};
@@ -16,6 +16,18 @@ use nr_words::NumberedClient;
 use std::alloc::Global;
 use std::marker::Brand;
 use std::sync::Wait;
+
+/// Why no session was opened, and the borrow of the dialer, which came back.
+fn not_opened<'d, N: BorrowName, D: Dialer>(
+    back: (ClientEnd, LentDialer<'d, D, N>),
+) -> (Result<(), ClientEnd>, &'d mut D)
+    ensures end { result.0 ≡ Err back.entry.0 }
+    ensures same { result.1.now ≡ back.entry.1.dialer.now }
+    ensures name { result.1.ghost_name ≡ N.name }
+{
+    let (end, lent) = back;
+    (Err(end), lent.into_inner())
+}
 
 /// Runs a command of a client with a number over links of a dialer, which is behind the borrow of this name. The borrow comes back.
 fn run_lent<
@@ -60,7 +72,7 @@ fn run_lent<
     );
     let mut session = match opened {
         Ok(session) => session,
-        Err((end, lent)) => return (Err(end), lent.into_inner()),
+        Err(back) => return not_opened(back),
     };
     let text = text_of(
         alloc,

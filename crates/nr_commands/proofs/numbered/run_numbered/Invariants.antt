@@ -1,4 +1,4 @@
-use Rattle.nr_commands.proofs.run_numbered.run_numbered.Given as goal
+use Rattle.nr_commands.proofs.numbered.run_numbered.Given as goal
 
 -- the name of the borrow
 abbrev pub ghosts-run_lent : goal.ghosts-run_lent
