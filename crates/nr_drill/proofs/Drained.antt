@@ -23,8 +23,8 @@ use Rattle.nr_texts.specs.declared.opening.Opening.{Opening}
 use Rattle.nr_script.specs.Limits.{lines_max}
 use Rattle.nr_script.specs.declared.script.Line.{Line}
 use Rattle.nr_script.specs.declared.script.Line.TheVariants as lines
-use Rattle.nr_script.specs.Script.{ScriptLines}
-use Rattle.nr_drill.specs.Lines.{EndsWithDrain, IsDrillScript}
+use Rattle.nr_script.specs.Script.{ScriptLines, IsScript}
+use Rattle.nr_drill.specs.Lines.{EndsWithDrain}
 use Rattle.nr_drill.specs.Drill.{link_of, SerialServer, Setting, Drill, IsLink, client_of, last_link, setting_now, pipes_of, with_cred, if_standing, waiting_call, after_moves, after_round, after_opening, after_leaving}
 use Rattle.nr_drill.specs.Follows.{is_empty, is_still, Drains, MakeAll, Follows, setting_of, last_setting, opened_drill}
 use Rattle.nr_drill.specs.InBytes.{RepliedInBytes}
@@ -249,7 +249,7 @@ drains_keep s links (suc rounds) old new e = then_keep old (after_round s links 
 -- ===== a script that ends with a drain, for a link
 
 -- After a drain that no later line of the client of a matched link follows nothing waits on it, if it wasn't dropped.
-pub follows_waits : (server : SerialServer) (script : ScriptLines) (run : List Mark) → IsDrillScript script → RepliedInBytes run → (follows : Follows server script run) → (link : ℕ) → IsLink follows.last link → Matched link run →
+pub follows_waits : (server : SerialServer) (script : ScriptLines) (run : List Mark) → IsScript script → RepliedInBytes run → (follows : Follows server script run) → (link : ℕ) → IsLink follows.last link → Matched link run →
     is_dropped link run ≡ false → EndsWithDrain script (client_of (last_setting follows) link) → NothingInTransit ((last_setting follows).opened link) link run
 follows_waits server script run is replied follows link within matched standing ends =
     let here : is_dropped link follows.last.marks ≡ false = ap (λ (r : List Mark). is_dropped link r) (sym follows.marks_are) ∙ standing in

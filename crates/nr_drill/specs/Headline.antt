@@ -46,7 +46,7 @@ use Rattle.nr_drill.specs.Reports.{call_reports, link_reports}
 -- ===== one link
 
 -- Whatever the script, hostile bytes too: both ends keep their laws in full; each call is accepted by the client's rule, so within the grant;
--- each outcome that is due has been handed over; and if no line puts bytes into the pipes of its client's links, or none into its own, each side
+-- each outcome that is due has been handed over; and if no line is a `raw` line of its client, or none puts bytes into its own pipes, each side
 -- receives what the other sent.
 pub record KeepsLaws (server : SerialServer) (script : ScriptLines) (opened : LinkParameters) (client link : ℕ) (run : List Mark) : Type 0 where
   pub asked : Asked opened link run
