@@ -21,14 +21,13 @@ use Rattle.nr_world.proofs.SameServer.{openings_clock}
 use Rattle.nr_drill.proofs.FirstLines.{both_true}
 use Rattle.nr_drill.proofs.Actions.{ActsIn, AnyRaw, IsLastOf, IsLineOf, all_act, line_kept, lines_of}
 use Rattle.nr_drill.proofs.Actions.Action.{DropLink}
-use Rattle.nr_drill.proofs.BegunLinks.{AreOpen, Holds, begins_so, first_owner, first_then, holds_kept, index_map, index_range, new_holds, open_drill, opened_count, first_count}
+use Rattle.nr_drill.proofs.BegunLinks.{AreOpen, Holds, first_owner, first_then, holds_kept, index_map, index_range, open_drill, opened_count, first_count}
 use Rattle.nr_drill.proofs.Lawful.{asked_so_far}
 use Rattle.nr_drill.proofs.Links.{DrillHolds, LinkHolds}
 use Rattle.nr_drill.proofs.OneRun.{made_once}
 use Rattle.nr_drill.specs.InBytes.{RepliedInBytes, RepliedMark}
 use Rattle.nr_reduce.proofs.Standing.{AtEachMark_more}
 use Rattle.nr_reduce.proofs.Steps.{client_one}
-use Rattle.nr_reduce.specs.Opening.{IsOpened}
 use Rattle.nr_script.specs.Limits.{lines_max}
 use Rattle.nr_world.specs.Steps.{MayLeave, OpensServerSo}
 use Rattle.nr_reduce.specs.Run.{client}
@@ -143,17 +142,14 @@ first_world tree script w is h = record {
 drop_client : (o : LinkParameters) (link : ℕ) (run : List Mark) → client o link (run ++ marks.Drop link ∷ []) ≡ client o link run
 drop_client o link run = client_one o link run (marks.Drop link)
 
-may_leave : (s : Setting) (opening : Opening) (n c link : ℕ) (d : Drill) → suc n ≤ lines_max → IsLastOf opening.clients c link d → opening.numbered ≡ true → (client ((setting_now s d).opened link) link d.marks).ended ≡ None → DrillHolds s opening n d →
+may_leave : (s : Setting) (opening : Opening) (n c link : ℕ) (d : Drill) → IsLastOf opening.clients c link d → opening.numbered ≡ true → (client ((setting_now s d).opened link) link d.marks).ended ≡ None → DrillHolds s opening n d →
     MayLeave ((setting_now s d).opened link) link d.marks
-may_leave s opening n c link d within last numbered stays h =
+may_leave s opening n c link d last numbered stays h =
     let k : LinkHolds opening n ((setting_now s d).opened link) link d.marks = h.links link (h.frame.owned c link last).0 in
-    let next = new_holds s opening n c link d within last numbered stays h in
-    let begun = begins_so s opening n c link d within last numbered stays h in
     record {
       numbered = k.terms.numbered numbered;
       typed = h.typed.typed;
       opens = k.opened;
-      opens_next = subst IsOpened begun.new_link next.opened;
       asked = asked_so_far ((setting_now s d).opened link) link d.marks k.lawful;
       none_due = k.due;
       stays = stays;
@@ -169,12 +165,12 @@ may_rejoin s opening n c d within here numbered holds replied stays = by (is_dro
     last = record { low = here.0; high = here.1; is = refl }
 
     by : (b : Bool) → is_dropped link d.marks ≡ b → MayLeave ((setting_now s d).opened link) link (after_drop_if b link d).marks
-    by true gone = may_leave s opening n c link d within last numbered stays (holds.1 (omega (arith, within)) replied)
+    by true gone = may_leave s opening n c link d last numbered stays (holds.1 (omega (arith, within)) replied)
     by false stands =
         let dropped : Drill = after_drop link d in
         let still : Holds s opening n dropped = (holds_kept s opening AnyRaw AnyRaw).action n c link DropLink d last tt tt holds in
         let also : RepliedInBytes dropped.marks = AtEachMark_more RepliedMark [] d.marks (marks.Drop link) replied tt in
-        may_leave s opening n c link dropped within (record { low = here.0; high = here.1; is = refl }) numbered (ap (λ (r : EndState ClientState). r.ended) (drop_client ((setting_now s d).opened link) link d.marks) ∙ stays)
+        may_leave s opening n c link dropped (record { low = here.0; high = here.1; is = refl }) numbered (ap (λ (r : EndState ClientState). r.ended) (drop_client ((setting_now s d).opened link) link d.marks) ∙ stays)
         (still.1 (omega (arith, within)) also)
 
 may_one : (s : Setting) (opening : Opening) (n : ℕ) (line : Line) (d : Drill) → suc n ≤ lines_max → IsLineOf opening AnyRaw line → Holds s opening n d → MayRejoin s line d
