@@ -1,5 +1,5 @@
 -- No other pass feeds: what was fed, and why no more is, is as the pass that fed last knew it.
-use Rattle.std.proofs.Common.{◌≡◌, ℕ, zero, suc, true, false, List, [], ◌∷◌, ◌++◌, Option, Some, None, refl, sym, ap, subst, ◌∙◌, append-nil, ◌⊎◌, ⊎_elim}
+use Rattle.std.proofs.Common.{◌≡◌, ◌≢◌, ℕ, zero, suc, Bool, true, false, List, [], ◌∷◌, ◌++◌, Option, Some, None, refl, sym, ap, subst, ◌∙◌, append-nil, ◌⊎◌, ⊎_elim}
 use Rattle.std.specs.List.{AllByRecursion, flat_map}
 use Rattle.std.proofs.lemmas.Grind.{flat_map-append}
 use mathlib.Core.Option.{some, some-injective, some-ne-none}
@@ -10,19 +10,22 @@ use Rattle.nr_turnstile.specs.Rule.{IsIn, IsOpen, Lies}
 use Rattle.nr_turnstile.specs.Passes.{Gets, seen_by, mine_of}
 use Rattle.nr_turnstile.proofs.Open.{stays_open}
 use Rattle.nr_shared.specs.declared.entry.Stop.{Stop}
+use Rattle.nr_shared.specs.declared.entry.Stop.TheVariants as causes
+use Rattle.nr_shared.specs.declared.entry.InitialState.{InitialState}
 use Rattle.nr_shared.specs.declared.entry.Entry.{Entry}
 use Rattle.nr_shared.specs.declared.entry.Entry.TheVariants as entries
 use Rattle.nr_shared.specs.declared.requester_with_sink.RequesterWithSink.{RequesterWithSink}
-use Rattle.nr_shared.specs.Histories.{closes_of, is_feeding, last_feeding, FeedsInOrder, first_of, initial_of, fed_by, bytes_fed, stop_in, stop_of}
+use Rattle.nr_shared.specs.Histories.{PresentLink, closes_of, is_feeding, last_feeding, FeedsInOrder, initial_of, fed_by, bytes_fed, no_link, present, present_after, present_from, tries_in, tries_of}
 use Rattle.nr_shared.specs.Standing.{Stands}
 use Rattle.nr_shared.specs.Callers.{IsFeeding, Writes}
-use Rattle.nr_shared.specs.Draining.{AreWrites}
-use Rattle.nr_shared.specs.Output.{IsCallOutstanding}
+use Rattle.nr_shared.specs.Draining.{AreWrites, fed_entry}
+use Rattle.nr_shared.specs.private.Reading.{IsReadEnd, read_part}
+use Rattle.nr_shared.specs.Output.{IsCallOutstanding, MayFeed, MayStop}
 use Rattle.nr_shared.proofs.Adding.{closes_own_on, got}
 use Rattle.nr_shared.proofs.Calls.{none_some}
 use Rattle.nr_shared.proofs.Lists.{at_after, at_either, in_more}
 use Rattle.nr_shared.proofs.Chains.{last_same, no_link_after}
-use Rattle.nr_shared.proofs.Histories.{initial_more}
+use Rattle.nr_shared.proofs.Histories.{initial_more, present_end}
 use Rattle.nr_shared.proofs.Outstanding.{outstanding_quiet}
 use Rattle.nr_reduce.specs.declared.call.Call.{Call}
 use Rattle.nr_reduce.specs.declared.call.Form.{Form}
@@ -30,32 +33,34 @@ use Rattle.nr_reduce.specs.declared.call.Form.{Form}
 true_false : true ≡ false → ⊥
 true_false e = absurd cc
 
--- an entry that doesn't feed has no bytes that were fed, and is no end of feeding
+-- an entry that doesn't feed has no bytes that were fed, and tells nothing of the link at hand but what is written
 quiet_bytes : (e : Entry) → is_feeding e ≡ false → fed_by e ≡ []
-quiet_bytes (entries.Initial initial) none = refl
 quiet_bytes (entries.Submit call form xid) none = refl
 quiet_bytes (entries.Wrote bytes) none = refl
-quiet_bytes (entries.Fed bytes previous) none = absurd (true_false none)
 quiet_bytes (entries.Done xid outcome submit) none = refl
 quiet_bytes (entries.Lost xid submit) none = refl
 quiet_bytes (entries.Forget xid submit) none = refl
 quiet_bytes (entries.Revoke xid bytes submit) none = refl
 quiet_bytes entries.WriteFailed none = refl
-quiet_bytes (entries.Stopped cause previous) none = refl
+quiet_bytes (entries.Initial initial) none = absurd (true_false none)
+quiet_bytes (entries.Fed bytes previous) none = absurd (true_false none)
+quiet_bytes (entries.Stopped cause previous) none = absurd (true_false none)
+quiet_bytes (entries.Rejoin sink previous) none = absurd (true_false none)
 quiet_bytes (entries.OutOfMemory piece previous) none = absurd (true_false none)
 
-quiet_stop : (e : Entry) → is_feeding e ≡ false → stop_in e ≡ None
-quiet_stop (entries.Initial initial) none = refl
-quiet_stop (entries.Submit call form xid) none = refl
-quiet_stop (entries.Wrote bytes) none = refl
-quiet_stop (entries.Fed bytes previous) none = refl
-quiet_stop (entries.Done xid outcome submit) none = refl
-quiet_stop (entries.Lost xid submit) none = refl
-quiet_stop (entries.Forget xid submit) none = refl
-quiet_stop (entries.Revoke xid bytes submit) none = refl
-quiet_stop entries.WriteFailed none = refl
-quiet_stop (entries.Stopped cause previous) none = absurd (true_false none)
-quiet_stop (entries.OutOfMemory piece previous) none = absurd (true_false none)
+quiet_part : (l : PresentLink) (e : Entry) → is_feeding e ≡ false → read_part (present_after l e) ≡ read_part l
+quiet_part l (entries.Submit call form xid) none = refl
+quiet_part l (entries.Wrote bytes) none = refl
+quiet_part l (entries.Done xid outcome submit) none = refl
+quiet_part l (entries.Lost xid submit) none = refl
+quiet_part l (entries.Forget xid submit) none = refl
+quiet_part l (entries.Revoke xid bytes submit) none = refl
+quiet_part l entries.WriteFailed none = refl
+quiet_part l (entries.Initial initial) none = absurd (true_false none)
+quiet_part l (entries.Fed bytes previous) none = absurd (true_false none)
+quiet_part l (entries.Stopped cause previous) none = absurd (true_false none)
+quiet_part l (entries.Rejoin sink previous) none = absurd (true_false none)
+quiet_part l (entries.OutOfMemory piece previous) none = absurd (true_false none)
 
 abbrev pub AreQuiet : List Entry → Type 0
 AreQuiet es = AllByRecursion (λ (e : Entry). is_feeding e ≡ false) es
@@ -64,43 +69,36 @@ none_fed : (es : List Entry) → AreQuiet es → flat_map fed_by es ≡ []
 none_fed [] all = refl
 none_fed (e ∷ es) all = ap (λ (l : List ℕ). l ++ flat_map fed_by es) (quiet_bytes e all.0) ∙ none_fed es all.1
 
-none_stops : (es : List Entry) → AreQuiet es → stop_of es ≡ None
-none_stops [] all = refl
-none_stops (e ∷ es) all = ap (λ (o : Option Stop). first_of o (stop_of es)) (quiet_stop e all.0) ∙ none_stops es all.1
+part_from : (l : PresentLink) (es : List Entry) → AreQuiet es → read_part (present_from l es) ≡ read_part l
+part_from l [] all = refl
+part_from l (e ∷ es) all = part_from (present_after l e) es all.1 ∙ quiet_part l e all.0
 
-first_assoc : {A : Type 0} (x y z : Option A) → first_of x (first_of y z) ≡ first_of (first_of x y) z
-first_assoc (Some a) y z = refl
-first_assoc None y z = refl
-
-first_none : {A : Type 0} (x : Option A) → first_of x None ≡ x
-first_none (Some a) = refl
-first_none None = refl
-
-stop_both : (xs ys : List Entry) → stop_of (xs ++ ys) ≡ first_of (stop_of xs) (stop_of ys)
-stop_both [] ys = refl
-stop_both (x ∷ xs) ys = ap (λ o. first_of (stop_in x) o) (stop_both xs ys) ∙ first_assoc (stop_in x) (stop_of xs) (stop_of ys)
-
--- what was fed, and why no more is, of a history with such entries
+-- what was fed, and what is told of the link at hand, of a history with such entries
 pub bytes_quiet : (xs ys : List Entry) → AreQuiet ys → bytes_fed (xs ++ ys) ≡ bytes_fed xs
 bytes_quiet xs ys quiet = flat_map-append fed_by xs ys ∙ (ap (λ (l : List ℕ). flat_map fed_by xs ++ l) (none_fed ys quiet) ∙ append-nil (flat_map fed_by xs))
 
-pub stop_quiet : (xs ys : List Entry) → AreQuiet ys → stop_of (xs ++ ys) ≡ stop_of xs
-stop_quiet xs ys quiet = stop_both xs ys ∙ (ap (λ (o : Option Stop). first_of (stop_of xs) o) (none_stops ys quiet) ∙ first_none (stop_of xs))
+from_both : (l : PresentLink) (xs ys : List Entry) → present_from l (xs ++ ys) ≡ present_from (present_from l xs) ys
+from_both l [] ys = refl
+from_both l (x ∷ xs) ys = from_both (present_after l x) xs ys
+
+pub part_quiet : (xs ys : List Entry) → AreQuiet ys → read_part (present (xs ++ ys)) ≡ read_part (present xs)
+part_quiet xs ys quiet = ap (λ (l : PresentLink). read_part l) (from_both no_link xs ys) ∙ part_from (present xs) ys quiet
 
 -- what a pass that fed last knows of feeding is so still
 pub record FeedsAlone {O C : Type 0} (p q : Pass (RequesterWithSink O C) Entry) : Type 0 where
   pub feeding : IsFeeding q
   pub bytes : bytes_fed (seen_by q) ≡ bytes_fed (seen_by p)
-  pub stop : stop_of (seen_by q) ≡ stop_of (seen_by p)
+  pub part : read_part (present (seen_by q)) ≡ read_part (present (seen_by p))
+  pub initial_is : initial_of (seen_by q) ≡ initial_of (seen_by p)
   pub outstanding : IsCallOutstanding (seen_by p) → IsCallOutstanding (seen_by q)
 
-pub alone : {O C : Type 0} (taken : O → Option (List ℕ)) (faults : O → ℕ) (allows : Call → Form → Type 0) (t : Turnstile (RequesterWithSink O C) Entry) (p q : Pass (RequesterWithSink O C) Entry) (y : RequesterWithSink O C) → Lies (seen_by p) (mine_of p) → Gets (Stands taken faults allows) closes_of t p q → Stands taken faults allows y (seen_by q)
+pub alone : {O C : Type 0} (link : O → ℕ) (taken : O → Option (List ℕ)) (faults : O → ℕ) (allows : Call → Form → Type 0) (t : Turnstile (RequesterWithSink O C) Entry) (p q : Pass (RequesterWithSink O C) Entry) (y : RequesterWithSink O C) → Lies (seen_by p) (mine_of p) → Gets (Stands link taken faults allows) closes_of t p q → Stands link taken faults allows y (seen_by q)
     → IsFeeding p → FeedsAlone p q
-alone taken faults allows t p q y lies g st fe =
+alone link taken faults allows t p q y lies g st fe =
     let xs = seen_by p in
     let ys = g.3.0 in
     let seen : seen_by q ≡ xs ++ ys = g.3.1 in
-    let stays = stays_open (Stands taken faults allows) closes_of t p q fe.last lies fe.is_open g in
+    let stays = stays_open (Stands link taken faults allows) closes_of t p q fe.last lies fe.is_open g in
     let quiet : AreQuiet ys = no_link_after closes_of is_feeding xs ys fe.last (subst FeedsInOrder seen st.in_order) fe.is_last
     (λ e i link closes. let (n, (is, at)) = at_after xs ys i.0 e i.1 in stays.1 n e (subst (λ (l : List Entry). get_elem? l n ≡ some e) (sym seen) at) closes) in
     record {
@@ -110,10 +108,11 @@ alone taken faults allows t p q y lies g st fe =
         last = fe.last;
         is_last = ap (λ (l : List Entry). last_feeding l) seen ∙ (last_same is_feeding xs ys quiet ∙ fe.is_last);
         is_open = stays;
-        closes_own = closes_own_on closes_of p q [] lies fe.closes_own (got (Stands taken faults allows) closes_of t p q g) (λ e i k closes. absurd (some-ne-none e (sym i.1)));
+        closes_own = closes_own_on closes_of p q [] lies fe.closes_own (got (Stands link taken faults allows) closes_of t p q g) (λ e i k closes. absurd (some-ne-none e (sym i.1)));
       };
       bytes = ap (λ (l : List Entry). bytes_fed l) seen ∙ bytes_quiet xs ys quiet;
-      stop = ap (λ (l : List Entry). stop_of l) seen ∙ stop_quiet xs ys quiet;
+      part = ap (λ (l : List Entry). read_part (present l)) seen ∙ part_quiet xs ys quiet;
+      initial_is = ap (λ (l : List Entry). initial_of l) seen ∙ (initial_more xs ys fe.initial fe.is_initial ∙ sym fe.is_initial);
       outstanding = λ out. subst IsCallOutstanding (sym seen) (outstanding_quiet xs ys fe.initial fe.is_initial quiet out);
     }
 
@@ -131,6 +130,7 @@ writes_quiet (entries.Lost xid submit ∷ es) all = absurd all
 writes_quiet (entries.Forget xid submit ∷ es) all = absurd all
 writes_quiet (entries.Revoke xid bytes submit ∷ es) all = absurd all
 writes_quiet (entries.Stopped cause previous ∷ es) all = absurd all
+writes_quiet (entries.Rejoin sink previous ∷ es) all = absurd all
 writes_quiet (entries.OutOfMemory piece previous ∷ es) all = absurd all
 
 pub writes_close : (es : List Entry) → AreWrites es → (i : ℕ) (e : Entry) → get_elem? es i ≡ some e → closes_of e ≡ None
@@ -147,6 +147,7 @@ writes_close (entries.Lost xid submit ∷ es) all i e at = absurd all
 writes_close (entries.Forget xid submit ∷ es) all i e at = absurd all
 writes_close (entries.Revoke xid bytes submit ∷ es) all i e at = absurd all
 writes_close (entries.Stopped cause previous ∷ es) all i e at = absurd all
+writes_close (entries.Rejoin sink previous ∷ es) all i e at = absurd all
 writes_close (entries.OutOfMemory piece previous ∷ es) all i e at = absurd all
 
 -- an open place stays open
@@ -173,6 +174,32 @@ alone_writes p q w lies fe =
         closes_own = closes_own_on closes_of p q w.es lies fe.closes_own w.adds (λ e i k closes. absurd (none_some k (sym (writes_close w.es w.are i.0 e i.1) ∙ closes)));
       };
       bytes = ap (λ (l : List Entry). bytes_fed l) w.seen ∙ bytes_quiet xs w.es quiet;
-      stop = ap (λ (l : List Entry). stop_of l) w.seen ∙ stop_quiet xs w.es quiet;
+      part = ap (λ (l : List Entry). read_part (present l)) w.seen ∙ part_quiet xs w.es quiet;
+      initial_is = ap (λ (l : List Entry). initial_of l) w.seen ∙ (initial_more xs w.es fe.initial fe.is_initial ∙ sym fe.is_initial);
       outstanding = λ out. subst IsCallOutstanding (sym w.seen) (outstanding_quiet xs w.es fe.initial fe.is_initial quiet out);
     }
+
+-- ---- One entry that feeds
+
+pub part_piece : (h : List Entry) (out : Bool) (piece : List ℕ) (n : ℕ) → read_part (present (h ++ fed_entry out piece n ∷ [])) ≡ present_after (read_part (present h)) (fed_entry out piece 0)
+part_piece h true piece n = ap (λ (l : PresentLink). read_part l) (present_end h (entries.OutOfMemory piece n))
+part_piece h false piece n = ap (λ (l : PresentLink). read_part l) (present_end h (entries.Fed piece n))
+
+pub part_stop : (h : List Entry) (cause : Stop) (n : ℕ) → read_part (present (h ++ entries.Stopped cause n ∷ [])) ≡ present_after (read_part (present h)) (entries.Stopped cause 0)
+part_stop h cause n = ap (λ (l : PresentLink). read_part l) (present_end h (entries.Stopped cause n))
+
+pub tries_more : (h : List Entry) (e : Entry) (c : InitialState) → initial_of h ≡ Some c → tries_of (h ++ e ∷ []) ≡ tries_of h
+tries_more h e c is = ap tries_in (initial_more h (e ∷ []) c is ∙ sym is)
+
+-- the end of a read may follow while more may be fed
+pub may_read : (cause : Stop) (h : List Entry) → IsReadEnd cause → MayFeed h → MayStop cause h
+may_read causes.LinkRead h end may = may
+may_read causes.Closed h end may = may
+may_read causes.Budget h end may = may
+may_read causes.Memory h end may = absurd end
+may_read causes.DialFault h end may = absurd end
+may_read (causes.Spent spent need) h end may = absurd end
+may_read causes.NotReopened h end may = absurd end
+
+pub not_memory : (cause : Stop) → IsReadEnd cause → cause ≢ causes.Memory
+not_memory cause end e = subst IsReadEnd e end

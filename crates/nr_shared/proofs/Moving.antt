@@ -1,33 +1,41 @@
 -- The value stands on with entries of bytes that move.
-use Rattle.std.proofs.Common.{◌≡◌, ℕ, ◌+◌, ◌-◌, ◌*◌, ◌<◌, ◌≤◌, ◌⊎◌, ⊎_elim, inl, inr, arith, Bool, true, false, ◌||◌, is_some, List, [], ◌∷◌, ◌++◌, length, length-append, append-nil, append_assoc, take, drop, Option, None, refl, sym, ap, subst, ◌∙◌}
+use Rattle.std.proofs.Common.{◌≡◌, ℕ, ◌+◌, ◌-◌, ◌*◌, ◌<◌, ◌≤◌, ◌⊎◌, ⊎_elim, inl, inr, arith, Bool, true, false, ◌||◌, is_some, List, [], ◌∷◌, ◌++◌, length, length-append, append-nil, append_assoc, take, drop, Option, Some, None, refl, sym, ap, subst, ◌∙◌}
 use Rattle.std.proofs.Math.Seq.{drop-length}
 use Rattle.std.proofs.lemmas.List.{length-drop}
 use Rattle.std.specs.Io.KnownBytes.{Appends}
-use Rattle.std.proofs.KnownBytes.{Appends-trans}
 use Rattle.nr_outside.specs.Faults.{Rises}
 use Rattle.nr_wire.specs.declared.hello.Side.TheVariants.{Initiator}
+use Rattle.nr_reduce.specs.declared.mark.Mark.{Mark}
 use Rattle.nr_reduce.specs.declared.mark.Mark.TheVariants as marks
 use Rattle.nr_requester.specs.RequesterState.{RequesterSide, queue_of}
 use Rattle.nr_requester.specs.AfterCalls.{after_drain}
 use Rattle.nr_requester.specs.OpenCalls.{KeepsTickets}
-use Rattle.nr_requester.specs.Standing.{StandsOn, StaysOut}
+use Rattle.nr_requester.specs.EarlierLinks.{KeepsEarlierBeside}
+use Rattle.nr_requester.specs.ReopenedLinks.{KeepsOn, StopsOn}
 use Rattle.nr_requester.specs.Fed.{fed_bytes}
-use Rattle.nr_requester.proofs.OwnLaw.{drain_keeps_law, drain_out_keeps_law, drain_keeps_grant}
+use Rattle.nr_requester.proofs.EarlierBeside.{earlier_drains}
+use Rattle.nr_requester.proofs.KeptLaw.{drain_law}
+use Rattle.nr_requester.proofs.StoppedLaw.{drain_stopped_law}
 use Rattle.nr_requester.proofs.Queues.{written_writable}
 use Rattle.nr_shared.specs.declared.entry.Stop.{Stop}
 use Rattle.nr_shared.specs.declared.entry.Entry.{Entry}
 use Rattle.nr_shared.specs.declared.entry.Entry.TheVariants as entries
 use Rattle.nr_shared.specs.declared.requester_with_sink.RequesterWithSink.{RequesterWithSink}
-use Rattle.nr_shared.specs.Histories.{mark_at, closes_of, is_feeding, bytes_fed, bytes_written, has_write_failed, stop_of}
+use Rattle.nr_shared.specs.Histories.{PresentLink, closes_of, is_feeding, bytes_fed, has_write_failed, present, present_after, rejoins, sink_of, stop_of}
 use Rattle.nr_shared.specs.Draining.{taken_between}
-use Rattle.nr_shared.specs.Standing.{is_out_of_memory, RepresentsHistory, RepresentsHistoryIf, one_if, IsWithin, Stands, Becomes}
+use Rattle.nr_shared.specs.Standing.{IsWithin, KeepsSink, KeepsSinkIf, KeepsSinkOf, RejoinsWithin, RepresentsHistory, Stands, Becomes, one_if}
 use Rattle.nr_shared.proofs.Chains.{chained_end}
-use Rattle.nr_shared.proofs.Histories.{run_same, initial_end, allowed_end, written_end, written_same, fed_same, write_failed_end, write_failed_same, stop_same}
+use Rattle.nr_shared.proofs.Histories.{initial_end, allowed_end, fed_same, present_end}
 use Rattle.nr_shared.proofs.Calls.{calls_kept, closes_end}
 use Rattle.nr_shared.specs.declared.entry.InitialState.{InitialState}
-use Rattle.nr_shared.specs.Marks.{IsLive, IsOut}
+use Rattle.nr_shared.specs.declared.entry.InitialSink.{InitialSink}
+use Rattle.nr_shared.specs.LinkRuns.{LinkRun, is_of, marks_at}
+use Rattle.nr_shared.specs.LinkStanding.{IsLiveOn, IsOutOn}
 use Rattle.nr_shared.proofs.Output.{follow_end, full_failed, full_wrote, output_same, queue_written}
-use Rattle.nr_shared.proofs.Steps.{follows_on, false_true}
+use Rattle.nr_shared.proofs.Steps.{IsApart, false_true, follows_by, still_numbered}
+use Rattle.nr_shared.proofs.LinkRuns.{is_rejoin, with_marks, with_none}
+use Rattle.nr_shared.proofs.LinkSteps.{goes_on, none_left, stays_out}
+use Rattle.nr_shared.proofs.Sinks.{sink_wrote, some_sink}
 use Rattle.nr_reduce.specs.declared.call.Call.{Call}
 use Rattle.nr_reduce.specs.declared.call.Form.{Form}
 
@@ -38,6 +46,10 @@ drained_ended r s n is = ap (λ (x : RequesterSide). x.state.side.ended) is
 drained_next : (r s : RequesterSide) (n : ℕ) → s ≡ after_drain n r → s.state.next_xid ≡ r.state.next_xid
 unfolding after_drain
 drained_next r s n is = ap (λ (x : RequesterSide). x.state.next_xid) is
+
+drained_terms : (r s : RequesterSide) (n : ℕ) → s ≡ after_drain n r → s.state.side.terms ≡ r.state.side.terms
+unfolding after_drain
+drained_terms r s n is = ap (λ (x : RequesterSide). x.state.side.terms) is
 
 -- what stays in the queue
 drained_queue : (r s : RequesterSide) (n : ℕ) → s ≡ after_drain n r → queue_of s.state ≡ drop n (queue_of r.state)
@@ -55,16 +67,17 @@ took_them r s n is length_bound =
     ap (λ (k : ℕ). take k (queue_of r.state)) same
 
 -- what a write leaves of the numbers
-within_moved : {fed_before : ℕ} (r s : RequesterSide) (pending pending' sink_failed sink_failed' : Bool) (stopped : Option Stop) (h h' : List Entry) (n : ℕ) → bytes_fed h' ≡ bytes_fed h → length h' ≡ length h + n
+within_moved : {fed_before : ℕ} (r s : RequesterSide) (pending pending' sink_failed sink_failed' : Bool) (stopped : Option Stop) (h h' : List Entry) (n : ℕ) → bytes_fed h' ≡ bytes_fed h → rejoins h' ≡ rejoins h → length h' ≡ length h + n
     → n + one_if pending' + 2 * one_if sink_failed ≤ one_if pending + 2 * one_if sink_failed'
     → KeepsTickets r.state s.state → s.state.next_xid ≡ r.state.next_xid → fed_bytes s ≡ fed_bytes r → IsWithin fed_before r pending sink_failed stopped h → IsWithin fed_before s pending' sink_failed' stopped h'
-within_moved r s pending pending' sink_failed sink_failed' stopped h h' n same len pays keeps next fed w =
+within_moved r s pending pending' sink_failed sink_failed' stopped h h' n same left len pays keeps next fed w =
     let bytes : length (bytes_fed h') ≡ length (bytes_fed h) = ap length same in
     let length_bound = w.length_bound in
     record {
       open_xids = w.open_xids;
       is_open_xid = λ x there. w.is_open_xid x (sym (ap is_some (keeps x)) ∙ there);
-      length_bound = omega (arith, len, bytes, pays, length_bound, next);
+      length_bound = omega (arith, len, bytes, pays, length_bound, next, left);
+      few = (let f = w.few in omega (arith, f, left));
       xids = (let k = w.xids in omega (arith, k, next));
       bytes = (let b = w.bytes in omega (arith, b, bytes));
       before = w.before;
@@ -72,137 +85,166 @@ within_moved r s pending pending' sink_failed sink_failed' stopped h h' n same l
     }
 
 -- an entry that is no mark
-pub follows_same : (o : Option Stop) (c : InitialState) (r : RequesterSide) (h : List Entry) (e : Entry) → ((n link : ℕ) → mark_at n link e ≡ []) → RepresentsHistory c r o h → RepresentsHistory c r o (h ++ e ∷ [])
-follows_same o c r h e none represents = by_out (is_out_of_memory o) represents where
-  by_out : (b : Bool) → RepresentsHistoryIf b c r h → RepresentsHistoryIf b c r (h ++ e ∷ [])
-  by_out false (not_memory, all) = (
-    not_memory,
-    λ opened link before fits. subst (IsLive opened link r) (sym (run_same before 0 link h e (none 0 link))) (all opened link before fits),
-  )
-  by_out true (memory, (n, all)) = (
-    memory,
-    (n, λ opened link before fits. subst (IsOut opened link r) (sym (run_same before n link h e (none n link))) (all opened link before fits)),
-  )
+pub follows_same : (o : Option Stop) (c : InitialState) (r : RequesterSide) (h : List Entry) (e : Entry) → is_rejoin e ≡ false → ((n : ℕ) (l : LinkRun) → marks_at n l e ≡ []) → RepresentsHistory c r o h → RepresentsHistory c r o (h ++ e ∷ [])
+follows_same o c r h e none quiet represents = follows_by o c r r h e none refl
+    (λ n l apart live. subst (λ (ms : List Mark). IsLiveOn (with_marks l ms) r) (sym (quiet n l)) (subst (λ (x : LinkRun). IsLiveOn x r) (sym (with_none l)) live))
+    (λ n l apart out. subst (λ (ms : List Mark). IsOutOn (with_marks l ms) r) (sym (quiet n l)) (subst (λ (x : LinkRun). IsOutOn x r) (sym (with_none l)) out)) represents
 
 true_false : true ≡ false → ⊥
 true_false e = absurd cc
 
-or_true : (b : Bool) → b || true ≡ true
-or_true true = refl
-or_true false = refl
-
 pub rises_from : (a b c : ℕ) → a ≤ b → Rises b c → Rises a c
 rises_from a b c le up = ⊎_elim (λ (more : b < c). inl (omega (arith, le, more))) (λ last. inr last) up
 
-module _ {O C : Type 0} (taken : O → Option (List ℕ)) (faults : O → ℕ) (allows : Call → Form → Type 0) where
+module _ {O C : Type 0} (link : O → ℕ) (taken : O → Option (List ℕ)) (faults : O → ℕ) (allows : Call → Form → Type 0) where
   -- nothing changed
-  pub nothing_moves : (m : RequesterWithSink O C) → Becomes taken faults allows m m []
-  nothing_moves m h st = subst (λ (l : List Entry). Stands taken faults allows m l) (sym (append-nil h)) st
+  pub nothing_moves : (m : RequesterWithSink O C) → Becomes link taken faults allows m m []
+  nothing_moves m h st = subst (λ (l : List Entry). Stands link taken faults allows m l) (sym (append-nil h)) st
 
-  -- what a drain gave: `n` bytes were taken
-  pub record Drains (m m' : RequesterWithSink O C) (n : ℕ) : Type 0 where
+  -- what a drain gave: this sink took `n` bytes
+  pub record Drains (m m' : RequesterWithSink O C) (s s' : O) (n : ℕ) : Type 0 where
+    pub was : m.sink ≡ Some s
+    pub becomes : m'.sink ≡ Some s'
+    pub number : link s' ≡ link s
+    pub tries : m'.tries ≡ m.tries
+    pub rejoined : m'.rejoined ≡ m.rejoined
     pub stopped : m'.stopped ≡ m.stopped
     pub some : n ≤ length (queue_of m.requester.state)
-    pub takes : Appends (taken m.sink) (taken m'.sink) (take n (queue_of m.requester.state))
-    pub never : faults m.sink ≤ faults m'.sink
+    pub takes : Appends (taken s) (taken s') (take n (queue_of m.requester.state))
+    pub never : faults s ≤ faults s'
     pub after : m'.requester ≡ after_drain n m.requester
-    pub on : StandsOn m.requester (λ link. marks.Wrote link Initiator (take n (queue_of m.requester.state))) m'.requester
-    pub stays : StaysOut m.requester (λ link. marks.Wrote link Initiator (take n (queue_of m.requester.state))) m'.requester
+    pub on : KeepsOn m.requester (λ link. marks.Wrote link Initiator (take n (queue_of m.requester.state))) m'.requester
+    pub stops : StopsOn m.requester (λ link. marks.Wrote link Initiator (take n (queue_of m.requester.state))) m'.requester
     pub keeps : KeepsTickets m.requester.state m'.requester.state
     pub fed : fed_bytes m'.requester ≡ fed_bytes m.requester
 
-  -- the requester follows the entry of what was written
-  follows_wrote : (m m' : RequesterWithSink O C) (n : ℕ) (c : InitialState) (h : List Entry) → Drains m m' n → RepresentsHistory c m.requester m.stopped h → RepresentsHistory c m'.requester m'.stopped (h ++ entries.Wrote (take n (queue_of m.requester.state)) ∷ [])
-  follows_wrote m m' n c h d represents =
-      let bytes = take n (queue_of m.requester.state) in
-      let e : Entry = entries.Wrote bytes in
-      subst (λ o. RepresentsHistory c m'.requester o (h ++ e ∷ [])) (sym d.stopped)
-      (follows_on m.stopped c m.requester m'.requester h e (λ link. marks.Wrote link Initiator bytes) (λ k link. refl) d.on d.stays (drained_ended m.requester m'.requester n d.after)
-      (λ opened link run live. (drain_keeps_law opened link m.requester run n live.stands live.asked, drain_keeps_grant opened link run bytes live.granted))
-      (λ opened link stop run out asked grant. (drain_out_keeps_law opened link m.requester stop run n out asked, drain_keeps_grant opened link run bytes grant)) represents)
+  module _ (m m' : RequesterWithSink O C) (s s' : O) (n : ℕ) (d : Drains m m' s s' n) where
+    abbrev bytes : List ℕ
+    bytes = take n (queue_of m.requester.state)
 
-  -- the sink took all that waited
-  wrote : (m m' : RequesterWithSink O C) (n : ℕ) (h : List Entry) → m.pending ≡ true → m.write_failed ≡ false → Drains m m' n → n ≡ length (queue_of m.requester.state) → faults m'.sink ≡ faults m.sink → m'.entries ≡ m.entries + 1 → m'.pending ≡ false → m'.write_failed ≡ false
-      → Stands taken faults allows m h → Stands taken faults allows m' (h ++ entries.Wrote (take n (queue_of m.requester.state)) ∷ [])
-  wrote m m' n h was whole d all same count pending sink_failed st =
-      let bytes = take n (queue_of m.requester.state) in
-      let e : Entry = entries.Wrote bytes in
-      let c = st.initial in
-      let len = length-append h (e ∷ []) in
-      let initial_l = initial_end h e c st.is_initial in
-      let represents_l = follows_wrote m m' n c h d st.represents in
-      let stopped_l : m'.stopped ≡ stop_of (h ++ e ∷ []) = d.stopped ∙ (st.stopped ∙ sym (stop_same h e refl)) in
-      record {
-        initial = c;
-        is_initial = initial_l;
-        entries = (let k = st.entries in omega (arith, k, len, count));
-        represents = represents_l;
-        calls = calls_kept m.requester.state m'.requester.state h e (λ xid. refl) d.keeps st.calls;
-        took = subst (Appends c.taken (taken m'.sink)) (sym (written_end h e)) (Appends-trans c.taken (taken m.sink) (taken m'.sink) (bytes_written h) bytes st.took d.takes);
-        never_falls = (let f = st.never_falls in let g = d.never in omega (arith, f, g));
-        write_failed = sink_failed ∙ (sym whole ∙ (st.write_failed ∙ sym (write_failed_same h e refl)));
-        sink_failed = λ is. absurd (false_true (sym sink_failed ∙ is));
-        counted = λ is. same ∙ st.counted whole;
-        stopped = stopped_l;
-        in_order = chained_end closes_of is_feeding 0 None h e st.in_order (λ is. absurd (false_true is));
-        allowed = allowed_end allows h e st.allowed tt;
-        closes_calls = closes_end h e tt st.closes_calls;
-        output = output_same h e refl st.output;
-        in_full = full_wrote h bytes (queue_written c m'.requester m'.stopped (h ++ e ∷ []) initial_l stopped_l represents_l (drained_all m.requester m'.requester n d.after all)) st.in_full;
-        may_follow = follow_end h e (sym st.write_failed ∙ whole) st.may_follow;
-        pending = λ is. drained_all m.requester m'.requester n d.after all;
-        within = subst (λ b. IsWithin (fed_bytes c.requester) m'.requester m'.pending b m'.stopped (h ++ e ∷ [])) (sym sink_failed)
-            (subst (λ b. IsWithin (fed_bytes c.requester) m'.requester b false m'.stopped (h ++ e ∷ [])) (sym pending)
-            (subst (λ o. IsWithin (fed_bytes c.requester) m'.requester false false o (h ++ e ∷ [])) (sym d.stopped)
-            (within_moved m.requester m'.requester true false false false m.stopped h (h ++ e ∷ []) 1 (fed_same h e refl) len (omega arith) d.keeps (drained_next m.requester m'.requester n d.after) d.fed
-            (subst (λ b. IsWithin (fed_bytes c.requester) m.requester b false m.stopped h) was (subst (λ b. IsWithin (fed_bytes c.requester) m.requester m.pending b m.stopped h) whole st.within)))));
-      }
+    beside : KeepsEarlierBeside m.requester m'.requester
+    beside = subst (KeepsEarlierBeside m.requester) (sym d.after) (earlier_drains m.requester n)
 
-  -- the sink took the first bytes, and a write failed
-  wrote_then_failed : (m m' : RequesterWithSink O C) (n : ℕ) (h : List Entry) → m.pending ≡ true → m.write_failed ≡ false → Drains m m' n → Rises (faults m.sink) (faults m'.sink) → m'.entries ≡ m.entries + 2 → m'.pending ≡ true → m'.write_failed ≡ true
-      → Stands taken faults allows m h → Stands taken faults allows m' ((h ++ entries.Wrote (take n (queue_of m.requester.state)) ∷ []) ++ entries.WriteFailed ∷ [])
-  wrote_then_failed m m' n h was whole d up count pending sink_failed st =
-      let bytes = take n (queue_of m.requester.state) in
-      let e : Entry = entries.Wrote bytes in
-      let f : Entry = entries.WriteFailed in
-      let l : List Entry = h ++ e ∷ [] in
-      let c = st.initial in
-      let len = length-append h (e ∷ []) in
-      let len2 = length-append l (f ∷ []) in
-      let initial_l = initial_end h e c st.is_initial in
-      record {
-        initial = c;
-        is_initial = initial_end l f c initial_l;
-        entries = (let k = st.entries in omega (arith, k, len, len2, count));
-        represents = follows_same m'.stopped c m'.requester l f (λ k link. refl) (follows_wrote m m' n c h d st.represents);
-        calls = calls_kept m'.requester.state m'.requester.state l f (λ xid. refl) (λ xid. refl) (calls_kept m.requester.state m'.requester.state h e (λ xid. refl) d.keeps st.calls);
-        took = subst (Appends c.taken (taken m'.sink)) (sym (written_same l f refl ∙ written_end h e)) (Appends-trans c.taken (taken m.sink) (taken m'.sink) (bytes_written h) bytes st.took d.takes);
-        never_falls = (let k = st.never_falls in let j = d.never in omega (arith, k, j));
-        write_failed = sink_failed ∙ sym (write_failed_end l f ∙ or_true (has_write_failed l));
-        sink_failed = λ is. rises_from c.faults (faults m.sink) (faults m'.sink) st.never_falls up;
-        counted = λ is. absurd (true_false (sym sink_failed ∙ is));
-        stopped = d.stopped ∙ (st.stopped ∙ (sym (stop_same h e refl) ∙ sym (stop_same l f refl)));
-        in_order = chained_end closes_of is_feeding 0 None l f (chained_end closes_of is_feeding 0 None h e st.in_order (λ is. absurd (false_true is))) (λ is. absurd (false_true is));
-        allowed = allowed_end allows l f (allowed_end allows h e st.allowed tt) tt;
-        closes_calls = closes_end l f tt (closes_end h e tt st.closes_calls);
-        output = output_same l f refl (output_same h e refl st.output);
-        in_full = full_failed h bytes st.in_full;
-        may_follow = follow_end l f (write_failed_same h e refl ∙ (sym st.write_failed ∙ whole)) (follow_end h e (sym st.write_failed ∙ whole) st.may_follow);
-        pending = λ is. absurd (false_true (sym is ∙ pending));
-        within = subst (λ b. IsWithin (fed_bytes c.requester) m'.requester m'.pending b m'.stopped (l ++ f ∷ [])) (sym sink_failed)
-            (subst (λ b. IsWithin (fed_bytes c.requester) m'.requester b true m'.stopped (l ++ f ∷ [])) (sym pending)
-            (subst (λ o. IsWithin (fed_bytes c.requester) m'.requester true true o (l ++ f ∷ [])) (sym d.stopped)
-            (within_moved m.requester m'.requester true true false true m.stopped h (l ++ f ∷ []) 2 (fed_same l f refl ∙ fed_same h e refl) (omega (arith, len, len2)) (omega arith) d.keeps (drained_next m.requester m'.requester n d.after) d.fed
-            (subst (λ b. IsWithin (fed_bytes c.requester) m.requester b false m.stopped h) was (subst (λ b. IsWithin (fed_bytes c.requester) m.requester m.pending b m.stopped h) whole st.within)))));
-      }
+    -- the requester follows the entry of what was written
+    follows_wrote : (c : InitialState) (h : List Entry) → RepresentsHistory c m.requester m.stopped h → RepresentsHistory c m'.requester m'.stopped (h ++ entries.Wrote bytes ∷ [])
+    follows_wrote c h represents =
+        let e : Entry = entries.Wrote bytes in
+        subst (λ o. RepresentsHistory c m'.requester o (h ++ e ∷ [])) (sym d.stopped)
+        (follows_by m.stopped c m.requester m'.requester h e refl (drained_ended m.requester m'.requester n d.after)
+        (λ k l apart live.
+        (let mark : Mark = marks.Wrote l.at.link Initiator bytes in
+        let kept = drain_law (is_of l l.at.link) live.earlier l.at.opened l.at.link m.requester l.run live.keeps n live.law.asked live.law.granted in
+        goes_on l m.requester m'.requester (mark ∷ []) live (d.on (is_of l l.at.link) live.earlier l.at.opened l.at.link l.run live.keeps) (record { asked = kept.0; granted = kept.1 }) beside (none_left mark l.at.link l.left refl apart)))
+        (λ k l apart out.
+        (let mark : Mark = marks.Wrote l.at.link Initiator bytes in
+        let kept = drain_stopped_law (is_of l l.at.link) out.earlier l.at.opened l.at.link m.requester out.stopped l.run out.keeps n out.law.asked out.law.granted in
+        stays_out l m.requester m'.requester (mark ∷ []) out.stopped out (d.stops (is_of l l.at.link) out.earlier l.at.opened l.at.link out.stopped l.run out.keeps) (record { asked = kept.0; granted = kept.1 }) beside (none_left mark l.at.link l.left refl apart)))
+        represents)
 
-  pub drains_all : (m m' : RequesterWithSink O C) (n : ℕ) → m.pending ≡ true → m.write_failed ≡ false → Drains m m' n → n ≡ length (queue_of m.requester.state) → faults m'.sink ≡ faults m.sink → m'.entries ≡ m.entries + 1 → m'.pending ≡ false → m'.write_failed ≡ false
-      → Becomes taken faults allows m m' (entries.Wrote (taken_between m.requester.state m'.requester.state) ∷ [])
-  drains_all m m' n was whole d all same count pending sink_failed h st = subst (λ (b : List ℕ). Stands taken faults allows m' (h ++ entries.Wrote b ∷ [])) (took_them m.requester m'.requester n d.after d.some) (wrote m m' n h was whole d all same count pending sink_failed st)
+    -- there is a link
+    pub has_sink : (h : List Entry) → Stands link taken faults allows m h → is_some (sink_of h) ≡ true
+    has_sink h st = some_sink link taken faults m.sink s (sink_of h) (present h) d.was st.sink
 
-  pub drains_some : (m m' : RequesterWithSink O C) (n : ℕ) → m.pending ≡ true → m.write_failed ≡ false → Drains m m' n → Rises (faults m.sink) (faults m'.sink) → m'.entries ≡ m.entries + 2 → m'.pending ≡ true → m'.write_failed ≡ true
-      → Becomes taken faults allows m m' (entries.Wrote (taken_between m.requester.state m'.requester.state) ∷ entries.WriteFailed ∷ [])
-  drains_some m m' n was whole d up count pending sink_failed h st =
-      let bytes = take n (queue_of m.requester.state) in
-      subst (λ (b : List ℕ). Stands taken faults allows m' (h ++ entries.Wrote b ∷ entries.WriteFailed ∷ [])) (took_them m.requester m'.requester n d.after d.some)
-      (subst (λ (l : List Entry). Stands taken faults allows m' l) (append_assoc h (entries.Wrote bytes ∷ []) (entries.WriteFailed ∷ [])) (wrote_then_failed m m' n h was whole d up count pending sink_failed st))
+    sink_after : (h h' : List Entry) → sink_of h' ≡ sink_of h → (present h').written ≡ (present h).written ++ bytes
+        → ((f : InitialSink) → KeepsSink link taken faults s f (present h) → (has_write_failed h' ≡ true → Rises f.faults (faults s')) × (has_write_failed h' ≡ false → faults s' ≡ f.faults))
+        → Stands link taken faults allows m h → KeepsSinkOf link taken faults m'.sink (present h')
+    sink_after h h' same written counts st = subst (λ (o : Option O). KeepsSinkOf link taken faults o (present h')) (sym d.becomes)
+        (subst (λ (i : Option InitialSink). KeepsSinkIf link taken faults (Some s') i (present h')) (sym same)
+        (sink_wrote link taken faults s s' (sink_of h) (present h) (present h') bytes written d.number d.takes d.never counts
+        (subst (λ (o : Option O). KeepsSinkOf link taken faults o (present h)) d.was st.sink)))
+
+    terms : m'.requester.state.side.terms ≡ m.requester.state.side.terms
+    terms = drained_terms m.requester m'.requester n d.after
+
+    -- the sink took all that waited
+    wrote : (h : List Entry) → m.pending ≡ true → m.write_failed ≡ false → n ≡ length (queue_of m.requester.state) → faults s' ≡ faults s → m'.entries ≡ m.entries + 1 → m'.pending ≡ false → m'.write_failed ≡ false
+        → Stands link taken faults allows m h → Stands link taken faults allows m' (h ++ entries.Wrote bytes ∷ [])
+    wrote h was whole all same count pending sink_failed st =
+        let e : Entry = entries.Wrote bytes in
+        let c = st.initial in
+        let len = length-append h (e ∷ []) in
+        let here : present (h ++ e ∷ []) ≡ present_after (present h) e = present_end h e in
+        let initial_l = initial_end h e c st.is_initial in
+        let represents_l = follows_wrote c h st.represents in
+        let stopped_l : m'.stopped ≡ stop_of (h ++ e ∷ []) = d.stopped ∙ (st.stopped ∙ sym (ap (λ (p : PresentLink). p.stopped) here)) in
+        let failed_l : has_write_failed (h ++ e ∷ []) ≡ has_write_failed h = ap (λ (p : PresentLink). p.write_failed) here in
+        let left_l : rejoins (h ++ e ∷ []) ≡ rejoins h = ap (λ (p : PresentLink). length p.left) here in
+        record {
+          initial = c;
+          is_initial = initial_l;
+          entries = (let k = st.entries in omega (arith, k, len, count));
+          represents = represents_l;
+          calls = calls_kept m.requester.state m'.requester.state h e (λ xid. refl) d.keeps st.calls;
+          sink = sink_after h (h ++ e ∷ []) (ap (λ (p : PresentLink). p.sink) here) (ap (λ (p : PresentLink). p.written) here)
+              (λ f keeps. ((λ is. absurd (true_false (sym is ∙ (failed_l ∙ (sym st.write_failed ∙ whole))))), (λ is. same ∙ keeps.counted (sym st.write_failed ∙ whole)))) st;
+          tries = d.tries ∙ st.tries;
+          rejoined = d.rejoined ∙ (st.rejoined ∙ sym left_l);
+          within_tries = subst (RejoinsWithin c.tries) (sym left_l) st.within_tries;
+          numbered = still_numbered c.tries m.requester.state m'.requester.state terms st.numbered;
+          write_failed = sink_failed ∙ (sym whole ∙ (st.write_failed ∙ sym failed_l));
+          stopped = stopped_l;
+          in_order = chained_end closes_of is_feeding 0 None h e st.in_order (λ is. absurd (false_true is));
+          allowed = allowed_end allows h e st.allowed tt;
+          closes_calls = closes_end h e tt st.closes_calls;
+          output = output_same h e refl st.output;
+          in_full = full_wrote h bytes (queue_written c m'.requester m'.stopped (h ++ e ∷ []) initial_l stopped_l represents_l (drained_all m.requester m'.requester n d.after all)) st.in_full;
+          may_follow = follow_end h e (sym st.write_failed ∙ whole, has_sink h st) st.may_follow;
+          pending = λ is. drained_all m.requester m'.requester n d.after all;
+          within = subst (λ b. IsWithin (fed_bytes c.requester) m'.requester m'.pending b m'.stopped (h ++ e ∷ [])) (sym sink_failed)
+              (subst (λ b. IsWithin (fed_bytes c.requester) m'.requester b false m'.stopped (h ++ e ∷ [])) (sym pending)
+              (subst (λ o. IsWithin (fed_bytes c.requester) m'.requester false false o (h ++ e ∷ [])) (sym d.stopped)
+              (within_moved m.requester m'.requester true false false false m.stopped h (h ++ e ∷ []) 1 (fed_same h e refl) left_l len (omega arith) d.keeps (drained_next m.requester m'.requester n d.after) d.fed
+              (subst (λ b. IsWithin (fed_bytes c.requester) m.requester b false m.stopped h) was (subst (λ b. IsWithin (fed_bytes c.requester) m.requester m.pending b m.stopped h) whole st.within)))));
+        }
+
+    -- the sink took the first bytes, and a write failed
+    wrote_then_failed : (h : List Entry) → m.pending ≡ true → m.write_failed ≡ false → Rises (faults s) (faults s') → m'.entries ≡ m.entries + 2 → m'.pending ≡ true → m'.write_failed ≡ true
+        → Stands link taken faults allows m h → Stands link taken faults allows m' ((h ++ entries.Wrote bytes ∷ []) ++ entries.WriteFailed ∷ [])
+    wrote_then_failed h was whole up count pending sink_failed st =
+        let e : Entry = entries.Wrote bytes in
+        let f : Entry = entries.WriteFailed in
+        let l : List Entry = h ++ e ∷ [] in
+        let c = st.initial in
+        let len = length-append h (e ∷ []) in
+        let len2 = length-append l (f ∷ []) in
+        let here : present l ≡ present_after (present h) e = present_end h e in
+        let there : present (l ++ f ∷ []) ≡ present_after (present_after (present h) e) f = present_end l f ∙ ap (λ (p : PresentLink). present_after p f) here in
+        let initial_l = initial_end h e c st.is_initial in
+        let left_l : rejoins (l ++ f ∷ []) ≡ rejoins h = ap (λ (p : PresentLink). length p.left) there in
+        record {
+          initial = c;
+          is_initial = initial_end l f c initial_l;
+          entries = (let k = st.entries in omega (arith, k, len, len2, count));
+          represents = follows_same m'.stopped c m'.requester l f refl (λ k x. refl) (follows_wrote c h st.represents);
+          calls = calls_kept m'.requester.state m'.requester.state l f (λ xid. refl) (λ xid. refl) (calls_kept m.requester.state m'.requester.state h e (λ xid. refl) d.keeps st.calls);
+          sink = sink_after h (l ++ f ∷ []) (ap (λ (p : PresentLink). p.sink) there) (ap (λ (p : PresentLink). p.written) there)
+              (λ i keeps. ((λ is. rises_from i.faults (faults s) (faults s') keeps.never_falls up), (λ is. absurd (true_false (sym (ap (λ (p : PresentLink). p.write_failed) there) ∙ is))))) st;
+          tries = d.tries ∙ st.tries;
+          rejoined = d.rejoined ∙ (st.rejoined ∙ sym left_l);
+          within_tries = subst (RejoinsWithin c.tries) (sym left_l) st.within_tries;
+          numbered = still_numbered c.tries m.requester.state m'.requester.state terms st.numbered;
+          write_failed = sink_failed ∙ sym (ap (λ (p : PresentLink). p.write_failed) there);
+          stopped = d.stopped ∙ (st.stopped ∙ sym (ap (λ (p : PresentLink). p.stopped) there));
+          in_order = chained_end closes_of is_feeding 0 None l f (chained_end closes_of is_feeding 0 None h e st.in_order (λ is. absurd (false_true is))) (λ is. absurd (false_true is));
+          allowed = allowed_end allows l f (allowed_end allows h e st.allowed tt) tt;
+          closes_calls = closes_end l f tt (closes_end h e tt st.closes_calls);
+          output = output_same l f refl (output_same h e refl st.output);
+          in_full = full_failed h bytes st.in_full;
+          may_follow = follow_end l f (ap (λ (p : PresentLink). p.write_failed) here ∙ (sym st.write_failed ∙ whole)) (follow_end h e (sym st.write_failed ∙ whole, has_sink h st) st.may_follow);
+          pending = λ is. absurd (false_true (sym is ∙ pending));
+          within = subst (λ b. IsWithin (fed_bytes c.requester) m'.requester m'.pending b m'.stopped (l ++ f ∷ [])) (sym sink_failed)
+              (subst (λ b. IsWithin (fed_bytes c.requester) m'.requester b true m'.stopped (l ++ f ∷ [])) (sym pending)
+              (subst (λ o. IsWithin (fed_bytes c.requester) m'.requester true true o (l ++ f ∷ [])) (sym d.stopped)
+              (within_moved m.requester m'.requester true true false true m.stopped h (l ++ f ∷ []) 2 (fed_same l f refl ∙ fed_same h e refl) left_l (omega (arith, len, len2)) (omega arith) d.keeps (drained_next m.requester m'.requester n d.after) d.fed
+              (subst (λ b. IsWithin (fed_bytes c.requester) m.requester b false m.stopped h) was (subst (λ b. IsWithin (fed_bytes c.requester) m.requester m.pending b m.stopped h) whole st.within)))));
+        }
+
+    pub drains_all : m.pending ≡ true → m.write_failed ≡ false → n ≡ length (queue_of m.requester.state) → faults s' ≡ faults s → m'.entries ≡ m.entries + 1 → m'.pending ≡ false → m'.write_failed ≡ false
+        → Becomes link taken faults allows m m' (entries.Wrote (taken_between m.requester.state m'.requester.state) ∷ [])
+    drains_all was whole all same count pending sink_failed h st = subst (λ (b : List ℕ). Stands link taken faults allows m' (h ++ entries.Wrote b ∷ [])) (took_them m.requester m'.requester n d.after d.some) (wrote h was whole all same count pending sink_failed st)
+
+    pub drains_some : m.pending ≡ true → m.write_failed ≡ false → Rises (faults s) (faults s') → m'.entries ≡ m.entries + 2 → m'.pending ≡ true → m'.write_failed ≡ true
+        → Becomes link taken faults allows m m' (entries.Wrote (taken_between m.requester.state m'.requester.state) ∷ entries.WriteFailed ∷ [])
+    drains_some was whole up count pending sink_failed h st =
+        subst (λ (b : List ℕ). Stands link taken faults allows m' (h ++ entries.Wrote b ∷ entries.WriteFailed ∷ [])) (took_them m.requester m'.requester n d.after d.some)
+        (subst (λ (l : List Entry). Stands link taken faults allows m' l) (append_assoc h (entries.Wrote bytes ∷ []) (entries.WriteFailed ∷ [])) (wrote_then_failed h was whole up count pending sink_failed st))

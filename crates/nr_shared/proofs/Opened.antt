@@ -1,18 +1,20 @@
 -- A requester that is shared stands for the history that is named, and the first pass feeds.
-use Rattle.std.proofs.Common.{◌≡◌, ◌⊎◌, ⊎_elim, ℕ, zero, suc, ◌^◌, ◌<◌, ◌≤◌, arith, true, false, is_some, List, [], ◌∷◌, length, append-nil, Option, Some, None, refl, sym, ap, subst, ◌∙◌}
+use Rattle.std.proofs.Common.{◌≡◌, ◌⊎◌, ⊎_elim, ℕ, zero, suc, ◌^◌, ◌<◌, ◌≤◌, ◌==◌, arith, Bool, true, false, is_some, List, [], ◌∷◌, length, append-nil, Option, Some, None, refl, sym, ap, subst, ◌∙◌, eq-eqb}
 use Rattle.std.proofs.lemmas.Bool.{cases_lt}
 use Rattle.std.specs.Io.KnownBytes.{Appends}
 use Rattle.std.proofs.KnownBytes.{Appends-nil}
 use mathlib.Core.Option.{some, some-injective, some-ne-none}
 use lib.ListN.{get_elem?}
 use Rattle.nr_outside.proofs.Moves.{HandsOut_nil}
-use Rattle.nr_outside.specs.Content.{HandsOut}
 use Rattle.nr_links.specs.Limits.{piece_max, read_max}
+use Rattle.nr_links.specs.Links.{LinkLog}
 use Rattle.nr_reduce.specs.declared.call.Call.{Call}
 use Rattle.nr_reduce.specs.declared.mark.LinkParameters.{LinkParameters}
 use Rattle.nr_reduce.specs.declared.mark.Mark.{Mark}
 use Rattle.nr_requester.specs.RequesterState.{RequesterSide, RequesterState}
 use Rattle.nr_requester.specs.Fed.{fed_bytes}
+use Rattle.nr_requester.specs.ReopenedLinks.{RequesterKeeps}
+use Rattle.nr_requester.proofs.ReopenedLinks.{first_links_are_kept}
 use Rattle.nr_requester.specs.OpenCalls.{IsFresh, call_with, found_answer, found_call, open_call}
 use Rattle.nr_requester.specs.declared.answer.AnsweredCall.{AnsweredCall}
 use Rattle.nr_requester.specs.RequesterState.{StoredCall}
@@ -27,14 +29,18 @@ use Rattle.nr_shared.specs.declared.source_reader.InitialSource.{InitialSource}
 use Rattle.nr_shared.specs.declared.source_reader.SourceReader.{SourceReader}
 use Rattle.nr_shared.specs.declared.requester_with_sink.RequesterWithSink.{RequesterWithSink}
 use Rattle.nr_shared.specs.Callers.{IsFeeding}
-use Rattle.nr_shared.specs.Feeding.{FeedsFor, StopHolds}
-use Rattle.nr_shared.specs.Histories.{AreAllowed, FitsInitialState, IsCallAt, submitted_call, bytes_fed, closes_of, initial_of, last_feeding, run_of, stop_of}
+use Rattle.nr_shared.specs.Feeding.{FeedsFor, InitialGiving, KeepsDialer, KeepsSourceOf, shared_giving}
+use Rattle.nr_shared.specs.Histories.{AreAllowed, IsCallAt, submitted_call, bytes_fed, closes_of, initial_of, last_feeding, present, tries_of}
 use Rattle.nr_shared.specs.Opening.{IsInitialHistory}
+use Rattle.nr_shared.specs.LinkRuns.{FitsInitialState, OpenedLink, is_of, links_of}
+use Rattle.nr_shared.specs.LinkStanding.{IsLiveOn}
 use Rattle.nr_shared.specs.Marks.{IsLive}
-use Rattle.nr_shared.specs.Standing.{RepresentsHistory, Stands, one_if}
+use Rattle.nr_shared.specs.Numbered.{IsBegun}
+use Rattle.nr_shared.specs.Standing.{IsNumbered, KeepsSinkOf, RejoinsWithin, RepresentsHistory, Stands, one_if}
 use Rattle.nr_shared.proofs.Asking.{none_closed}
 use Rattle.nr_shared.proofs.Calls.{closes_end, none_closes, none_some}
 use Rattle.nr_shared.proofs.Histories.{allowed_end}
+use Rattle.nr_shared.proofs.LinkRuns.{first_in_range}
 use Rattle.nr_shared.proofs.Lists.{at_below, at_end, in_places, place_in, places_len}
 use Rattle.nr_shared.proofs.Output.{follow_end, full_same, none_follow, none_wrote, output_none}
 use Rattle.nr_shared.proofs.Steps.{false_true}
@@ -69,31 +75,54 @@ below_next r xid fresh there = ⊎_elim
     (λ (ge : r.next_xid ≤ xid). (let f = fresh xid ge in absurd (false_true (sym (ap is_some (is_none (found_call xid r) (found_answer xid r) f.0 f.1)) ∙ there))))
     (cases_lt xid r.next_xid)
 
-live_first : (opened : LinkParameters) (link : ℕ) (before : List Mark) (c : InitialState) (r : RequesterSide) → c.requester ≡ r → FitsInitialState c opened link before → IsLive opened link r (run_of before 0 link (entries.Initial c ∷ []))
-unfolding run_of
-live_first opened link before c r is fits = subst (IsLive opened link r) (sym (append-nil before)) (subst (λ (x : RequesterSide). IsLive opened link x before) is fits.live)
+-- each call belongs to the first link
+all_own : (at : OpenedLink) (run : List Mark) → is_of (record { at = at; left = []; run = run }) at.link ≡ (λ (xid : ℕ). true)
+all_own at run = λ i. λ (xid : ℕ). same at.link i where
+  same : (n : ℕ) → (n == n) ≡ true
+  same n = eq-eqb n n refl
 
-module _ {O C : Type 0} (taken : O → Option (List ℕ)) (faults : O → ℕ) (allows : Call → Form → Type 0) where
-  pub opens : (m : RequesterWithSink O C) (history : List Entry) → IsInitialHistory taken faults m.requester m.sink history → m.entries ≡ 1 → m.pending ≡ true → m.write_failed ≡ false → m.stopped ≡ None
-      → ((x : ℕ) → m.requester.state.next_xid ≤ x → IsFresh m.requester.state x) → m.requester.state.next_xid ≤ 2 ^ 32 → Stands taken faults allows m history
-  opens m history o count pending whole going fresh small =
+live_first : (opened : LinkParameters) (numbers : ℕ → ℕ) (before : List Mark) (n most : ℕ) (c : InitialState) (r : RequesterSide) → c.requester ≡ r → FitsInitialState c most opened numbers before → IsLiveOn (links_of opened numbers before n (entries.Initial c ∷ [])) r
+unfolding links_of
+live_first opened numbers before n most c r is fits =
+    let at : OpenedLink = record { opened = opened; link = numbers 0 } in
+    let live : IsLive opened (numbers 0) r before = subst (λ (x : RequesterSide). IsLive opened (numbers 0) x before) is fits.live in
+    subst (λ (run : List Mark). IsLiveOn (record { at = at; left = []; run = run }) r) (sym (append-nil before)) (record {
+      earlier = 0;
+      keeps = subst (λ (own : ℕ → Bool). RequesterKeeps own 0 opened (numbers 0) r before) (sym (all_own at before)) (first_links_are_kept opened (numbers 0) r before live.stands);
+      opens = fits.opens;
+      in_range = first_in_range opened fits.first;
+      law = record { asked = live.asked; granted = live.granted };
+      left = tt;
+    })
+
+module _ {O C : Type 0} (link : O → ℕ) (taken : O → Option (List ℕ)) (faults : O → ℕ) (allows : Call → Form → Type 0) where
+  pub opens : (m : RequesterWithSink O C) (sink : O) (tries : Option ℕ) (history : List Entry) → IsInitialHistory link taken faults m.requester sink tries history → m.sink ≡ Some sink → m.tries ≡ tries → m.rejoined ≡ 0 → m.entries ≡ 1 → m.pending ≡ true → m.write_failed ≡ false → m.stopped ≡ None
+      → ((x : ℕ) → m.requester.state.next_xid ≤ x → IsFresh m.requester.state x) → m.requester.state.next_xid ≤ 2 ^ 32 → Stands link taken faults allows m history
+  opens m sink tries history o has most none count pending whole going fresh small =
       let c = o.initial in
       let e : Entry = entries.Initial c in
       let n : length (places m.requester.state.next_xid) ≡ m.requester.state.next_xid = places_len m.requester.state.next_xid 0 in
       let is_due : one_if m.pending ≡ 1 = ap one_if pending in
       let fed = o.fed in
       let same : fed_bytes c.requester ≡ fed_bytes m.requester = ap fed_bytes o.requester_is in
-      subst (Stands taken faults allows m) (sym o.history_is) (record {
+      subst (Stands link taken faults allows m) (sym o.history_is) (record {
         initial = c;
         is_initial = refl;
         entries = count;
-        represents = subst (λ (s : Option Stop). RepresentsHistory c m.requester s (e ∷ [])) (sym going) (o.has_memory, λ opened link before fits. live_first opened link before c m.requester o.requester_is fits);
+        represents = subst (λ (s : Option Stop). RepresentsHistory c m.requester s (e ∷ [])) (sym going) (o.has_memory, λ k opened numbers before fits. live_first opened numbers before k 0 c m.requester o.requester_is fits);
         calls = λ xid k call asked unclosed. absurd (not_asked e xid k call refl asked);
-        took = subst (λ (t : Option (List ℕ)). Appends t (taken m.sink) []) (sym o.sink_taken) (Appends-nil (taken m.sink));
-        never_falls = (let f = o.sink_faults in omega (arith, f));
+        sink = subst (λ (k : Option O). KeepsSinkOf link taken faults k (present (e ∷ []))) (sym has) (record {
+          number = sym o.sink_link;
+          took = subst (λ (t : Option (List ℕ)). Appends t (taken sink) []) (sym o.sink_taken) (Appends-nil (taken sink));
+          never_falls = (let f = o.sink_faults in omega (arith, f));
+          failed = λ is. absurd cc;
+          counted = λ is. sym o.sink_faults;
+        });
+        tries = most ∙ sym o.tries_are;
+        rejoined = none;
+        within_tries = subst (λ (k : Option ℕ). RejoinsWithin k 0) (sym o.tries_are) o.few;
+        numbered = subst (λ (k : Option ℕ). IsNumbered k m.requester.state) (sym o.tries_are) o.numbered;
         write_failed = whole;
-        sink_failed = λ is. absurd (false_true (sym whole ∙ is));
-        counted = λ is. sym o.sink_faults;
         stopped = going;
         in_order = ((λ is. refl), tt);
         allowed = initial_allowed allows c;
@@ -106,6 +135,7 @@ module _ {O C : Type 0} (taken : O → Option (List ℕ)) (faults : O → ℕ) (
           open_xids = places m.requester.state.next_xid;
           is_open_xid = λ xid there. place_in m.requester.state.next_xid xid (below_next m.requester.state xid fresh there);
           length_bound = omega (arith, n, is_due, none);
+          few = omega arith;
           xids = small;
           bytes = omega (arith, none);
           before = omega (arith, fed, same);
@@ -115,24 +145,17 @@ module _ {O C : Type 0} (taken : O → Option (List ℕ)) (faults : O → ℕ) (
 
 -- ---- The first pass
 
-module _ {O : Type 0} (taken : O → Option (List ℕ)) (faults : O → ℕ) where
-  pub earlier_opened : (r : RequesterSide) (sink : O) (history : List Entry) → IsInitialHistory taken faults r sink history → Earlier closes_of history
-  earlier_opened r sink history o = subst (Earlier closes_of) (sym o.history_is) (earlier_first o.initial)
+module _ {O : Type 0} (link : O → ℕ) (taken : O → Option (List ℕ)) (faults : O → ℕ) where
+  pub earlier_opened : (r : RequesterSide) (sink : O) (tries : Option ℕ) (history : List Entry) → IsInitialHistory link taken faults r sink tries history → Earlier closes_of history
+  earlier_opened r sink tries history o = subst (Earlier closes_of) (sym o.history_is) (earlier_first o.initial)
 
-  pub short : (r : RequesterSide) (sink : O) (history : List Entry) → IsInitialHistory taken faults r sink history → length history < 2 ^ 63
-  short r sink history o =
-      let len : length history ≡ 1 = ap length o.history_is in
-      omega (arith, len)
+-- of a history of one entry, the initial state
+pub earlier_begun : {I D : Type 0} (link : I → ℕ) (ended : D → Option LinkLog) (history : List Entry) (source : I) (dialer : D) → IsBegun link ended history source dialer → Earlier closes_of history
+earlier_begun link ended history source dialer o = subst (Earlier closes_of) (sym o.history_is) (earlier_first o.initial)
 
-  pub opened_fed : (r : RequesterSide) (sink : O) (history : List Entry) → IsInitialHistory taken faults r sink history → bytes_fed history ≡ []
-  opened_fed r sink history o = ap (λ (l : List Entry). bytes_fed l) o.history_is
-
-  pub opened_stop : (r : RequesterSide) (sink : O) (history : List Entry) → IsInitialHistory taken faults r sink history → stop_of history ≡ None
-  opened_stop r sink history o = ap (λ (l : List Entry). stop_of l) o.history_is
-
-module _ {O C : Type 0} (taken : O → Option (List ℕ)) (faults : O → ℕ) where
-  pub first_feeds : (r : RequesterSide) (sink : O) (history : List Entry) (p : Pass (RequesterWithSink O C) Entry) → IsInitialHistory taken faults r sink history → seen_by p ≡ history → mine_of p ≡ places (length history) → IsFeeding p
-  first_feeds r sink history p o seen mine =
+module _ {O C : Type 0} where
+  pub first_feeds : {I D : Type 0} (link : I → ℕ) (ended : D → Option LinkLog) (history : List Entry) (source : I) (dialer : D) (p : Pass (RequesterWithSink O C) Entry) → IsBegun link ended history source dialer → seen_by p ≡ history → mine_of p ≡ places (length history) → IsFeeding p
+  first_feeds link ended history source dialer p o seen mine =
       let c = o.initial in
       let e : Entry = entries.Initial c in
       let is : seen_by p ≡ e ∷ [] = seen ∙ o.history_is in
@@ -157,20 +180,48 @@ module _ {O C : Type 0} (taken : O → Option (List ℕ)) (faults : O → ℕ) w
       let same : length (seen_by p) ≡ length history = ap length seen in
       omega (arith, l, same)
 
--- its source
-pub first_reader : {I O C : Type 0} (left given : I → Option (List ℕ)) (faults : I → ℕ) (b : InitialSource I O C) (s : SourceReader I O C) → home_of s.pass ≡ home_of b.pass.value → IsOutside s.pass → Lies (seen_by s.pass) (mine_of s.pass) → IsFeeding s.pass
-    → s.source ≡ b.source.value → bytes_fed (seen_by s.pass) ≡ [] → stop_of (seen_by s.pass) ≡ None → s.read ≡ b.read → b.read ≤ read_max → length s.buf.items ≡ piece_max → FeedsFor left given faults b s
-first_reader left given faults b s home outside lies feeding source none going read small room = record {
+-- its source, and the dialer
+source_first : {I : Type 0} (link : I → ℕ) (left given : I → Option (List ℕ)) (faults : I → ℕ) (told : Bool) (c : InitialState) (source : I) (read : ℕ) → (is_some c.tries ≡ true → link source ≡ c.sink.link) → KeepsSourceOf link left given faults (is_some (tries_of (entries.Initial c ∷ []))) told (shared_giving left given faults source) (Some source) read (present (entries.Initial c ∷ []))
+source_first link left given faults told c source read number = record {
+  number = number;
+  first = shared_giving left given faults source;
+  is_first = refl;
+  gave = HandsOut_nil (left source) (given source);
+  never_falls = omega arith;
+  failed = λ is. absurd cc;
+  counted = λ is. refl;
+  stop = tt;
+}
+
+pub source_begun : {I D : Type 0} (link : I → ℕ) (left given : I → Option (List ℕ)) (faults : I → ℕ) (ended : D → Option LinkLog) (told : Bool) (history : List Entry) (source : I) (dialer : D) (read : ℕ) → IsBegun link ended history source dialer
+    → KeepsSourceOf link left given faults (is_some (tries_of history)) told (shared_giving left given faults source) (Some source) read (present history)
+source_begun link left given faults ended told history source dialer read o = subst (λ (h : List Entry). KeepsSourceOf link left given faults (is_some (tries_of h)) told (shared_giving left given faults source) (Some source) read (present h)) (sym o.history_is)
+    (source_first link left given faults told o.initial source read o.same)
+
+pub dialer_begun : {I D : Type 0} (link : I → ℕ) (ended : D → Option LinkLog) (faults : D → ℕ) (giving : InitialGiving) (history : List Entry) (source : I) (dialer : D) → IsBegun link ended history source dialer → KeepsDialer ended faults giving dialer dialer (present history)
+dialer_begun link ended faults giving history source dialer o = subst (λ (h : List Entry). KeepsDialer ended faults giving dialer dialer (present h)) (sym o.history_is) (record {
+  open_link = λ some opened. opened;
+  hung_up = refl;
+  counted = λ no. refl;
+  failed = λ is. absurd cc;
+})
+
+pub first_reader : {I O C D : Type 0} (link : I → ℕ) (left given : I → Option (List ℕ)) (faults : I → ℕ) (ended : D → Option LinkLog) (dialer_faults : D → ℕ) (b : InitialSource I O C D) (s : SourceReader I O C D) (history : List Entry)
+    → home_of s.pass ≡ home_of b.pass.value → IsOutside s.pass → Lies (seen_by s.pass) (mine_of s.pass) → IsFeeding s.pass → seen_by s.pass ≡ history → IsBegun link ended history b.source.value b.dialer.value
+    → s.source ≡ Some b.source.value → s.dialer ≡ b.dialer.value → s.read ≡ b.read → b.read ≤ read_max → length s.buf.items ≡ piece_max → FeedsFor link left given faults ended dialer_faults b s
+first_reader {I} {O} {C} {D} link left given faults ended dialer_faults b s history home outside lies feeding seen o source dialer read small room = record {
   home = home;
   outside = outside;
   lies = lies;
   feeding = feeding;
-  gave = subst (λ (l : List ℕ). HandsOut (left b.source.value) (given b.source.value) (left s.source) (given s.source) l) (sym none)
-      (subst (λ i. HandsOut (left b.source.value) (given b.source.value) (left i) (given i) []) (sym source) (HandsOut_nil (left b.source.value) (given b.source.value)));
-  read = (let len : length (bytes_fed (seen_by s.pass)) ≡ 0 = ap length none in omega (arith, read, len));
+  source = (let shared = shared_giving left given faults b.source.value in
+      subst (λ (x : Option I). KeepsSourceOf link left given faults (is_some (tries_of (seen_by s.pass))) (is_some (ended b.dialer.value)) shared x s.read (present (seen_by s.pass))) (sym source)
+      (subst (λ (h : List Entry). KeepsSourceOf link left given faults (is_some (tries_of h)) (is_some (ended b.dialer.value)) shared (Some b.source.value) s.read (present h)) (sym seen) (source_begun link left given faults ended (is_some (ended b.dialer.value)) history b.source.value b.dialer.value s.read o)));
+  dialer = (let shared = shared_giving left given faults b.source.value in
+      subst (λ (d : D). KeepsDialer ended dialer_faults shared b.dialer.value d (present (seen_by s.pass))) (sym dialer)
+      (subst (λ (h : List Entry). KeepsDialer ended dialer_faults shared b.dialer.value b.dialer.value (present h)) (sym seen) (dialer_begun link ended dialer_faults shared history b.source.value b.dialer.value o)));
+  open_link = λ some. o.link_made (sym (ap (λ (h : List Entry). is_some (tries_of h)) (seen ∙ o.history_is)) ∙ some);
+  read = (let len : length (bytes_fed (seen_by s.pass)) ≡ 0 = ap (λ (l : List Entry). length (bytes_fed l)) (seen ∙ o.history_is) in omega (arith, read, len));
   within = omega (arith, read, small);
-  never_falls = (let same : faults s.source ≡ faults b.source.value = ap faults source in omega (arith, same));
-  counted = λ no. ap faults source;
-  stop = subst (λ (o : Option Stop). StopHolds o (faults b.source.value) (faults s.source) (left s.source) s.read) (sym going) tt;
   room = room;
 }

@@ -116,12 +116,12 @@ module _ {O C : Type 0} where
         (in_ordered (mine_of p) (mine_of o) n (subst (IsIn n) mine (owns k n e (subst (IsIn k) (sym mine) (still_ordered (mine_of p) (mine_of o) k open_place.0)) at closes))),
   )
 
-module _ {I O C : Type 0} where
-  pub rests_on : (s : SharedRequester I O C) (p q : Pass I O C) → SharedRests s p → Rests s.main q.main → Rests s.source q.source → seen_by q.source ≡ seen_by p.source → IsCaller q.main → KeepsLaw (seen_by q.main) → SharedRests s q
+module _ {I O C D : Type 0} where
+  pub rests_on : (s : SharedRequester I O C D) (p q : Pass I O C D) → SharedRests s p → Rests s.main q.main → Rests s.source q.source → seen_by q.source ≡ seen_by p.source → IsCaller q.main → KeepsLaw (seen_by q.main) → SharedRests s q
   rests_on s p q r main source seen caller law = record { main = main; source = source; initial_source = r.initial_source; has_seen = seen ∙ r.has_seen; home = r.home; caller = caller; law = law }
 
   -- the turn was taken
-  pub rests_missed : (s : SharedRequester I O C) (p : Pass I O C) (m : TurnPass (RequesterWithSink O C) Entry) → SharedRests s p → Misses p.main m → SharedRests s (record { main = m; source = p.source })
+  pub rests_missed : (s : SharedRequester I O C D) (p : Pass I O C D) (m : TurnPass (RequesterWithSink O C) Entry) → SharedRests s p → Misses p.main m → SharedRests s (record { main = m; source = p.source })
   rests_missed s p m r miss = record {
     main = (miss.0.0 ∙ r.main.0, miss.1, ap (λ v. v.stage) miss.2);
     source = r.source;

@@ -1,5 +1,5 @@
 -- A call that is submitted, and bytes that are written before and after it.
-use Rattle.std.proofs.Common.{◌≡◌, ◌≢◌, ℕ, List, [], ◌∷◌, ◌++◌, length, length-append, arith, ◌≤◌, Result, Ok, Err, refl, sym, ap, subst, ◌∙◌, append_assoc, append-nil}
+use Rattle.std.proofs.Common.{◌≡◌, ◌≢◌, ℕ, List, [], ◌∷◌, ◌++◌, length, length-append, arith, ◌≤◌, Result, Ok, Err, refl, sym, ap, subst, ◌∙◌, append_assoc, append-nil, inr, Option, Some, None}
 use mathlib.Core.Option.{some}
 use lib.ListN.{get_elem?}
 use Rattle.atomic_table.proofs.Lists.{at_last, at_longer}
@@ -19,8 +19,8 @@ use Rattle.nr_shared.specs.declared.requester_with_sink.RequesterWithSink.{Reque
 use Rattle.nr_shared.specs.Adding.{Adds}
 use Rattle.nr_shared.specs.Callers.{HasOpenCall, IsCaller, KeepsOpen, Writes}
 use Rattle.nr_shared.specs.Draining.{AreWrites}
-use Rattle.nr_shared.specs.Ending.{IsCause, LinkEnded}
-use Rattle.nr_shared.specs.Histories.{closes_of}
+use Rattle.nr_shared.specs.Ending.{IsCause, LinkEnded, LossEnds}
+use Rattle.nr_shared.specs.Histories.{closes_of, tries_of}
 use Rattle.nr_shared.specs.Output.{HasWrittenOutput}
 use Rattle.nr_shared.specs.Waiting.{Awaits, IsSubmitTurn, GivesUp, LacksCredit, NoAnswer, OpensCall, OwnAnswer, Sends, SendsNone, Waits, WritesDue}
 use Rattle.nr_shared.proofs.Adding.{adds_both, adds_same}
@@ -42,6 +42,7 @@ both_write (entries.Lost x asked ∷ xs) ys one two = absurd one
 both_write (entries.Forget x asked ∷ xs) ys one two = absurd one
 both_write (entries.Revoke x bytes asked ∷ xs) ys one two = absurd one
 both_write (entries.Stopped cause previous ∷ xs) ys one two = absurd one
+both_write (entries.Rejoin sink previous ∷ xs) ys one two = absurd one
 both_write (entries.OutOfMemory piece previous ∷ xs) ys one two = absurd one
 
 -- what is written before a call is closed is written after its Submit
@@ -55,9 +56,14 @@ link_cause calls.LinkRead call form h is = is
 link_cause calls.LinkWrite call form h is = is
 link_cause calls.Closed call form h is = is
 link_cause (calls.Budget read) call form h is = is
-link_cause (calls.Spent left need) call form h is = absurd is
-link_cause (calls.TooLarge need room) call form h is = absurd is
-link_cause calls.Memory call form h is = absurd is
+link_cause (calls.Tries n) call form h is = is
+link_cause calls.DialFault call form h is = is
+link_cause (calls.Spent left need) call form h is = inr is
+link_cause (calls.TooLarge need room) call form h is = absurd (no_large (tries_of h) is) where
+  no_large : (o : Option ℕ) → LossEnds o (calls.TooLarge need room) h → ⊥
+  no_large None ended = ended
+  no_large (Some tries) ended = ended
+link_cause calls.Memory call form h is = tt
 
 module _ {O C : Type 0} where
   -- A call is submitted in a turn: bytes are written, the Submit is added, and bytes are written.

@@ -4,10 +4,6 @@ use mathlib.Core.Option.{some}
 use lib.ListN.{get_elem?}
 use Rattle.nr_reduce.specs.declared.call.Call.{Call}
 use Rattle.nr_reduce.specs.declared.call.Form.{Form}
-use Rattle.nr_reduce.specs.declared.mark.LinkParameters.{LinkParameters}
-use Rattle.nr_reduce.specs.declared.mark.Mark.{Mark}
-use Rattle.nr_reduce.specs.Asked.{AskedSoFar}
-use Rattle.nr_reduce.specs.Credits.{KeepsGrant}
 use Rattle.nr_turnstile.specs.declared.turn.Turn.{Turn}
 use Rattle.nr_turnstile.specs.declared.turnstile.Pass.{Pass}
 use Rattle.nr_turnstile.specs.Rule.{Earlier, IsIn, IsOpen, Lies}
@@ -16,17 +12,19 @@ use Rattle.nr_turnstile.specs.Turns.{Has, pass_of}
 use Rattle.nr_shared.specs.declared.entry.Entry.{Entry}
 use Rattle.nr_shared.specs.declared.entry.InitialState.{InitialState}
 use Rattle.nr_shared.specs.declared.requester_with_sink.RequesterWithSink.{RequesterWithSink}
-use Rattle.nr_shared.specs.Histories.{ClosesCalls, FeedsInOrder, FitsHistory, IsCallAt, closes_of, initial_of, is_feeding, last_feeding, run_of}
+use Rattle.nr_shared.specs.Histories.{ClosesCalls, FeedsInOrder, IsCallAt, closes_of, initial_of, is_feeding, last_feeding, rejoins}
+use Rattle.nr_shared.specs.LinkRuns.{OnEachLink}
+use Rattle.nr_shared.specs.LinkStanding.{KeepsLinkLaw}
 use Rattle.nr_shared.specs.Adding.{Adds}
 use Rattle.nr_shared.specs.Draining.{AreWrites}
 use Rattle.nr_shared.specs.Output.{EntriesMayFollow, OutputBeforeInput, WritesInFull}
-use Rattle.nr_shared.specs.Standing.{Stands}
+use Rattle.nr_shared.specs.Standing.{RejoinsWithin, Stands}
 
 -- The turn has the value, which stands for the history that its pass has seen. The pass's places lie in it, and an entry closes only an earlier place.
-pub record IsReady {O C : Type 0} (taken : O → Option (List ℕ)) (faults : O → ℕ) (allows : Call → Form → Type 0) (t : Turn (RequesterWithSink O C) Entry) : Type 0 where
+pub record IsReady {O C : Type 0} (link : O → ℕ) (taken : O → Option (List ℕ)) (faults : O → ℕ) (allows : Call → Form → Type 0) (t : Turn (RequesterWithSink O C) Entry) : Type 0 where
   pub value : RequesterWithSink O C
   pub has : Has t value
-  pub stands : Stands taken faults allows value (seen_by (pass_of t))
+  pub stands : Stands link taken faults allows value (seen_by (pass_of t))
   pub lies : Lies (seen_by (pass_of t)) (mine_of (pass_of t))
   pub earlier : Earlier closes_of (seen_by (pass_of t))
 
@@ -49,7 +47,8 @@ pub record IsCaller {O C : Type 0} (p : Pass (RequesterWithSink O C) Entry) : Ty
   pub closes_own : ClosesOwn p
   pub feeds_none : (k : ℕ) (e : Entry) → IsIn k (mine_of p) → get_elem? (seen_by p) k ≡ some e → is_feeding e ≡ false
 
--- The marks of the history keep the law of the client's side, and the last grant; `n` is how many bytes were fed of the piece at which memory ran out.
+-- The marks of the history keep the law of the client's side, and the last grant, on each link; `n` is how many bytes were fed of the piece at which memory
+-- ran out. A lost link is left as often as it may be, at most.
 -- Output is written before more is fed, and in full. Bytes move until an end, and are fed only while a call is outstanding. Each entry that feeds
 -- closes the one before it: so they are all of the one pass that feeds.
 -- The history begins with the initial state. An entry by which a call ends closes the place of a call of that xid.
@@ -57,7 +56,8 @@ pub record KeepsLaw (history : List Entry) : Type 0 where
   pub initial : InitialState
   pub is_initial : initial_of history ≡ Some initial
   pub n : ℕ
-  pub law : (opened : LinkParameters) (link : ℕ) (before : List Mark) → FitsHistory history opened link before → AskedSoFar opened link (run_of before n link history) × KeepsGrant opened link (run_of before n link history)
+  pub law : OnEachLink n history KeepsLinkLaw
+  pub within_tries : RejoinsWithin initial.tries (rejoins history)
   pub output : OutputBeforeInput history
   pub in_full : WritesInFull history
   pub may_follow : EntriesMayFollow history

@@ -15,7 +15,8 @@ use Rattle.nr_requester.specs.KeptAnswers.{buffers_in}
 use Rattle.nr_shared.specs.declared.entry.Entry.{Entry}
 use Rattle.nr_shared.specs.declared.entry.Entry.TheVariants as entries
 use Rattle.nr_shared.specs.declared.entry.Stop.TheVariants as causes
-use Rattle.nr_shared.specs.Histories.{FitsHistory, place_of, place_or_none, run_of, stop_of}
+use Rattle.nr_shared.specs.Histories.{place_of, place_or_none, stop_of}
+use Rattle.nr_shared.specs.LinkRuns.{OnCallLink, OnLink}
 
 -- what each region of a call holds by these marks, in the order read chunk, write chunk, reply chunk
 abbrev pub regions_placed : LinkParameters → (link : ℕ) → List Mark → (xid : ℕ) → List (List ℕ)
@@ -24,23 +25,22 @@ regions_placed opened link run xid = map (λ r. placed_bytes opened link Initiat
 -- The buffers of a call have what its regions hold by this history; `n` is how many bytes were fed of the piece at which memory ran out.
 pub record HavePlaced (xid : ℕ) (buffers : Buffers) (history : List Entry) : Type 0 where
   pub n : ℕ
-  pub placed : (opened : LinkParameters) (link : ℕ) (before : List Mark) → FitsHistory history opened link before → buffers_in buffers ≡ regions_placed opened link (run_of before n link history) xid
+  pub placed : OnCallLink n xid history (λ opened link run. buffers_in buffers ≡ regions_placed opened link run xid)
 
 -- The same of the buffers of a call that is lost, one after the other; and no message brought an outcome of it.
 pub record IsLostWith (xid : ℕ) (buffers : Buffers) (history : List Entry) : Type 0 where
   pub n : ℕ
-  pub placed : (opened : LinkParameters) (link : ℕ) (before : List Mark) → FitsHistory history opened link before → bytes_of_buffers buffers ≡ revoked_bytes opened link (run_of before n link history) xid
-  pub none : (opened : LinkParameters) (link : ℕ) (before : List Mark) → FitsHistory history opened link before → (c : CompletedCall) → Contains (client opened link (run_of before n link history)).state.outcomes c → c.xid ≢ xid
+  pub placed : OnCallLink n xid history (λ opened link run. bytes_of_buffers buffers ≡ revoked_bytes opened link run xid)
+  pub none : OnCallLink n xid history (λ opened link run. (c : CompletedCall) → Contains (client opened link run).state.outcomes c → c.xid ≢ xid)
 
--- No message brought an outcome of the call by this history.
+-- No message brought an outcome of the call by this history. One that it got over an earlier link would have kept it from being sent again.
 pub record IsUnanswered (xid : ℕ) (history : List Entry) : Type 0 where
   pub n : ℕ
-  pub none : (opened : LinkParameters) (link : ℕ) (before : List Mark) → FitsHistory history opened link before → (c : CompletedCall) → Contains (client opened link (run_of before n link history)).state.outcomes c → c.xid ≢ xid
+  pub none : OnCallLink n xid history (λ opened link run. (c : CompletedCall) → Contains (client opened link run).state.outcomes c → c.xid ≢ xid)
 
 -- Memory hasn't run out for a frame, the client of the run hasn't ended, and no message brought an outcome of the call.
 abbrev pub IsAwaitedStill : (xid : ℕ) → List Entry → Type 0
-IsAwaitedStill xid history = (stop_of history ≢ Some causes.Memory) × ((opened : LinkParameters) (link : ℕ) (before : List Mark) → FitsHistory history opened link before →
-    ((client opened link (run_of before 0 link history)).ended ≡ None) × ((c : CompletedCall) → Contains (client opened link (run_of before 0 link history)).state.outcomes c → c.xid ≢ xid))
+IsAwaitedStill xid history = (stop_of history ≢ Some causes.Memory) × (OnLink 0 history (λ opened link run. (client opened link run).ended ≡ None) × OnCallLink 0 xid history (λ opened link run. (c : CompletedCall) → Contains (client opened link run).state.outcomes c → c.xid ≢ xid))
 
 -- A call that stands at this place is lost; or, if memory ran out for a frame, so that the client of the run hasn't ended, its memory is revoked.
 abbrev pub lost_entry : End → (xid : ℕ) → Buffers → (submit : ℕ) → Entry

@@ -1,50 +1,25 @@
--- The history of a shared requester: the marks of its run, and which entries close which.
-use Rattle.std.specs.Prelude.{◌≡◌, ⊤, ℕ, Bool, true, false, ◌==◌, ◌||◌, is_some, take, if◌then◌else◌, List, [], ◌∷◌, ◌++◌, Option, None, Some}
+-- The history of a shared requester: which entries close which, and what it says of the link at hand.
+use Rattle.std.specs.Prelude.{◌≡◌, ⊤, ℕ, Bool, true, false, ◌==◌, ◌||◌, is_some, if◌then◌else◌, List, [], ◌∷◌, ◌++◌, length, Option, None, Some}
 use Rattle.std.specs.List.{flat_map}
 use mathlib.Core.Option.{some}
 use lib.ListN.{get_elem?}
-use Rattle.nr_wire.specs.declared.hello.Side.TheVariants.{Initiator}
-use Rattle.nr_reduce.specs.declared.call.Submission.TheVariants as submissions
 use Rattle.nr_reduce.specs.declared.call.Call.{Call}
 use Rattle.nr_reduce.specs.declared.call.Form.{Form}
 use Rattle.nr_reduce.specs.declared.call.Outcome.{Outcome}
-use Rattle.nr_reduce.specs.declared.mark.LinkParameters.{LinkParameters}
-use Rattle.nr_reduce.specs.declared.mark.Mark.{Mark}
-use Rattle.nr_reduce.specs.declared.mark.Mark.TheVariants as marks
-use Rattle.nr_reduce.specs.Opening.{IsOpened}
 use Rattle.nr_shared.specs.declared.entry.Stop.{Stop}
 use Rattle.nr_shared.specs.declared.entry.Stop.TheVariants as causes
 use Rattle.nr_shared.specs.declared.entry.Entry.{Entry}
 use Rattle.nr_shared.specs.declared.entry.Entry.TheVariants as entries
+use Rattle.nr_shared.specs.declared.entry.InitialSink.{InitialSink}
 use Rattle.nr_shared.specs.declared.entry.InitialState.{InitialState}
 use Rattle.nr_shared.specs.Chains.{Chained, last_place}
-use Rattle.nr_shared.specs.Marks.{IsLive}
-
--- ---- Its marks
-
--- `n` is how many bytes were fed of the piece at which memory ran out, if it did.
-abbrev pub mark_at : (n link : ℕ) → Entry → List Mark
-mark_at n link (entries.Initial initial) = []
-mark_at n link (entries.Submit call form xid) = marks.Submit link call form (submissions.Accepted xid) ∷ []
-mark_at n link (entries.Wrote bytes) = marks.Wrote link Initiator bytes ∷ []
-mark_at n link (entries.Fed bytes previous) = marks.Fed link Initiator bytes ∷ []
-mark_at n link (entries.Done xid outcome submit) = marks.Done link xid outcome ∷ []
-mark_at n link (entries.Lost xid submit) = marks.Lost link xid ∷ []
-mark_at n link (entries.Forget xid submit) = marks.Forget link xid ∷ []
-mark_at n link (entries.Revoke xid bytes submit) = marks.Revoke link xid bytes ∷ []
-mark_at n link entries.WriteFailed = []
-mark_at n link (entries.Stopped cause previous) = []
-mark_at n link (entries.OutOfMemory piece previous) = marks.Fed link Initiator (take n piece) ∷ []
-
--- the run of a history, as that of the link with this number, after the marks that the requester had made before it was shared
-unfoldable pub run_of : (before : List Mark) (n link : ℕ) → List Entry → List Mark
-run_of before n link history = before ++ flat_map (mark_at n link) history
 
 -- ---- What an entry closes
 
 abbrev pub closes_of : Entry → Option ℕ
 closes_of (entries.Fed bytes previous) = Some previous
 closes_of (entries.Stopped cause previous) = Some previous
+closes_of (entries.Rejoin sink previous) = Some previous
 closes_of (entries.OutOfMemory piece previous) = Some previous
 closes_of (entries.Done xid outcome submit) = Some submit
 closes_of (entries.Lost xid submit) = Some submit
@@ -56,12 +31,13 @@ closes_of entry = None
 abbrev pub IsUnclosed : List Entry → ℕ → Type 0
 IsUnclosed history k = (n : ℕ) (e : Entry) → get_elem? history n ≡ some e → ¬ (closes_of e ≡ Some k)
 
--- ---- The entries of the pass that feeds: the initial state, what was fed since, and that no more is
+-- ---- The entries of the pass that feeds: the initial state, what was fed since, that no more is, and that the next link was dialled
 
 abbrev pub is_feeding : Entry → Bool
 is_feeding (entries.Initial initial) = true
 is_feeding (entries.Fed bytes previous) = true
 is_feeding (entries.Stopped cause previous) = true
+is_feeding (entries.Rejoin sink previous) = true
 is_feeding (entries.OutOfMemory piece previous) = true
 is_feeding entry = false
 
@@ -79,6 +55,14 @@ abbrev pub initial_of : List Entry → Option InitialState
 initial_of (entries.Initial initial ∷ es) = Some initial
 initial_of history = None
 
+-- how often a lost link may be dialled again: never, if that isn't told
+abbrev pub tries_in : Option InitialState → Option ℕ
+tries_in None = None
+tries_in (Some initial) = initial.tries
+
+abbrev pub tries_of : List Entry → Option ℕ
+tries_of history = tries_in (initial_of history)
+
 abbrev pub written_by : Entry → List ℕ
 written_by (entries.Wrote bytes) = bytes
 written_by entry = []
@@ -88,36 +72,91 @@ fed_by (entries.Fed bytes previous) = bytes
 fed_by (entries.OutOfMemory piece previous) = piece
 fed_by entry = []
 
+-- the bytes that were written and fed over all links
 abbrev pub bytes_written : List Entry → List ℕ
 bytes_written history = flat_map written_by history
 
 abbrev pub bytes_fed : List Entry → List ℕ
 bytes_fed history = flat_map fed_by history
 
--- ---- Why bytes don't move any more
+-- ---- The link at hand
 
-abbrev pub first_of : {A : Type 0} → Option A → Option A → Option A
-first_of (Some x) y = Some x
-first_of None y = y
+-- a link that was left: its sink when its bytes began to move, the bytes that the sink took, and those that were fed over it
+pub record PastLink : Type 0 where
+  pub sink : Option InitialSink
+  pub written : List ℕ
+  pub fed : List ℕ
 
-abbrev pub write_failed : Entry → Bool
-write_failed entries.WriteFailed = true
-write_failed entry = false
+-- What the entries so far tell of it: its sink when its bytes began to move, or none if its dial failed; the bytes that its sink took, and those that were
+-- fed over it; whether a write failed, and whether a read did; why no more is fed; and the links that were left before it, the last one first.
+pub record PresentLink : Type 0 where
+  pub sink : Option InitialSink
+  pub written : List ℕ
+  pub fed : List ℕ
+  pub write_failed : Bool
+  pub read_failed : Bool
+  pub stopped : Option Stop
+  pub left : List PastLink
 
--- a write failed
+abbrev pub stopped_by_dial : Option InitialSink → Option Stop
+stopped_by_dial None = Some causes.DialFault
+stopped_by_dial (Some sink) = None
+
+abbrev pub is_read_fault : Stop → Bool
+is_read_fault causes.LinkRead = true
+is_read_fault cause = false
+
+abbrev pub present_after : PresentLink → Entry → PresentLink
+present_after l (entries.Initial initial) = record l { sink = Some initial.sink }
+present_after l (entries.Wrote bytes) = record l { written = l.written ++ bytes }
+present_after l (entries.Fed bytes previous) = record l { fed = l.fed ++ bytes }
+present_after l entries.WriteFailed = record l { write_failed = true }
+present_after l (entries.Stopped cause previous) = record l { read_failed = l.read_failed || is_read_fault cause; stopped = Some cause }
+present_after l (entries.OutOfMemory piece previous) = record l { fed = l.fed ++ piece; stopped = Some causes.Memory }
+present_after l (entries.Rejoin sink previous) = record { sink = sink; written = []; fed = []; write_failed = false; read_failed = false; stopped = stopped_by_dial sink; left = (record { sink = l.sink; written = l.written; fed = l.fed }) ∷ l.left }
+present_after l entry = l
+
+abbrev pub present_from : PresentLink → List Entry → PresentLink
+present_from l [] = l
+present_from l (e ∷ es) = present_from (present_after l e) es
+
+abbrev pub no_link : PresentLink
+no_link = record { sink = None; written = []; fed = []; write_failed = false; read_failed = false; stopped = None; left = [] }
+
+abbrev pub present : List Entry → PresentLink
+present history = present_from no_link history
+
+-- the sink of the link at hand when its bytes began to move, unless its dial failed
+abbrev pub sink_of : List Entry → Option InitialSink
+sink_of history = (present history).sink
+
+abbrev pub link_written : List Entry → List ℕ
+link_written history = (present history).written
+
+abbrev pub link_fed : List Entry → List ℕ
+link_fed history = (present history).fed
+
+-- how often a lost link was left
+abbrev pub rejoins : List Entry → ℕ
+rejoins history = length (present history).left
+
+-- a write failed over the link at hand
 abbrev pub has_write_failed : List Entry → Bool
-has_write_failed [] = false
-has_write_failed (e ∷ es) = write_failed e || has_write_failed es
+has_write_failed history = (present history).write_failed
 
-abbrev pub stop_in : Entry → Option Stop
-stop_in (entries.Stopped cause previous) = Some cause
-stop_in (entries.OutOfMemory piece previous) = Some causes.Memory
-stop_in entry = None
-
--- why no more is fed
+-- why no more is fed over the link at hand
 abbrev pub stop_of : List Entry → Option Stop
-stop_of [] = None
-stop_of (e ∷ es) = first_of (stop_in e) (stop_of es)
+stop_of history = (present history).stopped
+
+-- A read or a write failed, or the server ended its stream, and there is no other cause for which no more is fed: the link is lost.
+abbrev pub is_lost_by : (write_failed : Bool) → Option Stop → Bool
+is_lost_by failed None = failed
+is_lost_by failed (Some causes.LinkRead) = true
+is_lost_by failed (Some causes.Closed) = true
+is_lost_by failed (Some cause) = false
+
+abbrev pub is_lost : List Entry → Bool
+is_lost history = is_lost_by (has_write_failed history) (stop_of history)
 
 -- ---- The calls
 
@@ -175,13 +214,3 @@ forget_by history xid = entries.Forget xid (place_or_none (place_of xid history)
 
 abbrev pub revoke_by : List Entry → (xid : ℕ) → List ℕ → Entry
 revoke_by history xid bytes = entries.Revoke xid bytes (place_or_none (place_of xid history))
-
--- ---- What its link was opened with, and the marks before
-
--- The link was opened with these parameters, and the requester stood for these marks when it was shared, which keep the law of its side.
-pub record FitsInitialState (initial : InitialState) (opened : LinkParameters) (link : ℕ) (before : List Mark) : Type 0 where
-  pub opens : IsOpened opened
-  pub live : IsLive opened link initial.requester before
-
-abbrev pub FitsHistory : List Entry → LinkParameters → ℕ → List Mark → Type 0
-FitsHistory history opened link before = (initial : InitialState) × (initial_of history ≡ Some initial) × FitsInitialState initial opened link before

@@ -2,3 +2,5 @@
 pub mod CreditState
 pub mod Flushed
 pub mod Taking
+pub mod Needs
+pub mod Reading

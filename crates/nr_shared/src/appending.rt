@@ -6,7 +6,7 @@ ghost use Rattle.nr_turnstile.specs.Turns.{pass_of, Has, IsSameTurn};
 ghost use Rattle.nr_shared.specs.declared.entry.Entry.TheVariants as entries;
 ghost use Rattle.nr_shared.specs.declared.requester_with_sink.RequesterWithSink.{RequesterWithSink};
 ghost use Rattle.nr_shared.specs.Histories.{closes_of, done_by, forget_by, revoke_by};
-ghost use Rattle.nr_shared.specs.Draining.{fed_after, stopped_after, taken_between};
+ghost use Rattle.nr_shared.specs.Draining.{fed_after, initial_sink, rejoined_after, stopped_after, taken_between};
 ghost use Rattle.nr_requester.specs.Buffers.{bytes_of_buffers};
 ghost use Rattle.nr_shared.specs.HandedBack.{lost_by};
 
@@ -14,7 +14,7 @@ use crate::call_rule::CallRule;
 use crate::entry::{Entry, Stop};
 use crate::requester_with_sink::MainTurn;
 use nr_link::End;
-use nr_outside::Sink;
+use nr_links::LinkSink;
 use nr_reduce::{Call, Form, Outcome};
 use nr_requester::{Buffers, Requester, Ticket};
 use nr_turnstile::EntryName;
@@ -44,7 +44,7 @@ impl<K: Appended> EntryName<Entry> for EntryOf<K> {
 }
 
 /// Appends the Submit of a call that was accepted.
-pub(crate) fn append_submit<O: Sink, C: CallRule, K: Appended>(
+pub(crate) fn append_submit<O: LinkSink, C: CallRule, K: Appended>(
     turn: &mut MainTurn<'_, O, C>,
     _call: &Snapshot<Call>,
     _form: &Snapshot<Form>,
@@ -61,7 +61,7 @@ pub(crate) fn append_submit<O: Sink, C: CallRule, K: Appended>(
 }
 
 /// Appends the Done of an outcome that is delivered.
-pub(crate) fn append_done<O: Sink, C: CallRule, K: Appended>(
+pub(crate) fn append_done<O: LinkSink, C: CallRule, K: Appended>(
     turn: &mut MainTurn<'_, O, C>,
     _xid: u32,
     _outcome: &Snapshot<Outcome>,
@@ -77,7 +77,7 @@ pub(crate) fn append_done<O: Sink, C: CallRule, K: Appended>(
 }
 
 /// Appends the Forget of a call.
-pub(crate) fn append_forget<O: Sink, C: CallRule, K: Appended>(
+pub(crate) fn append_forget<O: LinkSink, C: CallRule, K: Appended>(
     turn: &mut MainTurn<'_, O, C>,
     _xid: u32,
 )
@@ -92,7 +92,7 @@ pub(crate) fn append_forget<O: Sink, C: CallRule, K: Appended>(
 }
 
 /// Appends the Wrote of the bytes that the sink took between two moments of the requester.
-pub(crate) fn append_wrote<O: Sink, C: CallRule, K: Appended>(
+pub(crate) fn append_wrote<O: LinkSink, C: CallRule, K: Appended>(
     turn: &mut MainTurn<'_, O, C>,
     _before: &Snapshot<Requester>,
     _after: &Snapshot<Requester>,
@@ -108,7 +108,9 @@ pub(crate) fn append_wrote<O: Sink, C: CallRule, K: Appended>(
 }
 
 /// Appends that a write failed.
-pub(crate) fn append_write_failed<O: Sink, C: CallRule, K: Appended>(turn: &mut MainTurn<'_, O, C>)
+pub(crate) fn append_write_failed<O: LinkSink, C: CallRule, K: Appended>(
+    turn: &mut MainTurn<'_, O, C>,
+)
     requires entry { entries.WriteFailed ≡ K.entry }
     requires value { (y : RequesterWithSink O C) × Has turn.old y }
     requires may { MayStep closes_of (pass_of turn.old) entries.WriteFailed }
@@ -120,7 +122,7 @@ pub(crate) fn append_write_failed<O: Sink, C: CallRule, K: Appended>(turn: &mut 
 }
 
 /// Appends the Revoke of a call.
-pub(crate) fn append_revoke<O: Sink, C: CallRule, K: Appended>(
+pub(crate) fn append_revoke<O: LinkSink, C: CallRule, K: Appended>(
     turn: &mut MainTurn<'_, O, C>,
     _xid: u32,
     _buffers: &Snapshot<Buffers>,
@@ -136,7 +138,7 @@ pub(crate) fn append_revoke<O: Sink, C: CallRule, K: Appended>(
 }
 
 /// Appends the entry of a call that is lost.
-pub(crate) fn append_lost<O: Sink, C: CallRule, K: Appended>(
+pub(crate) fn append_lost<O: LinkSink, C: CallRule, K: Appended>(
     turn: &mut MainTurn<'_, O, C>,
     _end: End,
     _xid: u32,
@@ -153,7 +155,7 @@ pub(crate) fn append_lost<O: Sink, C: CallRule, K: Appended>(
 }
 
 /// Appends the entry of a piece that is fed.
-pub(crate) fn append_fed<O: Sink, C: CallRule, K: Appended>(
+pub(crate) fn append_fed<O: LinkSink, C: CallRule, K: Appended>(
     turn: &mut MainTurn<'_, O, C>,
     _out_of_memory: bool,
     _piece: &[u8],
@@ -169,7 +171,7 @@ pub(crate) fn append_fed<O: Sink, C: CallRule, K: Appended>(
 }
 
 /// Appends the Stopped of the end of feeding.
-pub(crate) fn append_stopped<O: Sink, C: CallRule, K: Appended>(
+pub(crate) fn append_stopped<O: LinkSink, C: CallRule, K: Appended>(
     turn: &mut MainTurn<'_, O, C>,
     _cause: Stop,
 )
@@ -179,6 +181,21 @@ pub(crate) fn append_stopped<O: Sink, C: CallRule, K: Appended>(
     ensures same { IsSameTurn turn.old turn.new }
     ensures held { (y : RequesterWithSink O C) → Has turn.old y → Has turn.new y }
     ensures step { Steps (pass_of turn.old) (pass_of turn.new) (stopped_after (seen_by (pass_of turn.old)) _cause) }
+{
+    turn.step::<EntryOf<K>>();
+}
+
+/// Appends the Rejoin of a requester that left its link, with the sink of the next one, or none.
+pub(crate) fn append_rejoin<O: LinkSink, C: CallRule, K: Appended>(
+    turn: &mut MainTurn<'_, O, C>,
+    _sink: &Snapshot<Option<O>>,
+)
+    requires entry { rejoined_after (seen_by (pass_of turn.old)) (initial_sink O.link O.taken O.faults _sink.now.value) ≡ K.entry }
+    requires value { (y : RequesterWithSink O C) × Has turn.old y }
+    requires may { MayStep closes_of (pass_of turn.old) (rejoined_after (seen_by (pass_of turn.old)) (initial_sink O.link O.taken O.faults _sink.now.value)) }
+    ensures same { IsSameTurn turn.old turn.new }
+    ensures held { (y : RequesterWithSink O C) → Has turn.old y → Has turn.new y }
+    ensures step { Steps (pass_of turn.old) (pass_of turn.new) (rejoined_after (seen_by (pass_of turn.old)) (initial_sink O.link O.taken O.faults _sink.now.value)) }
 {
     turn.step::<EntryOf<K>>();
 }

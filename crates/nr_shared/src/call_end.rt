@@ -13,19 +13,23 @@ use nr_reduce::Refused;
 pub enum CallEnd {
     /// The requester has ended: the server broke the protocol or sent a Terminate, or memory ran out for a frame.
     Ended(End),
-    /// A read of the link failed.
+    /// A read of the link failed, and it isn't dialled again.
     LinkRead,
-    /// A write to the link failed.
+    /// A write to the link failed, and it isn't dialled again.
     LinkWrite,
-    /// The server ended its stream.
+    /// The server ended its stream, and the link isn't dialled again.
     Closed,
-    /// Fewer xids or STags are left than the call needs.
+    /// The link was lost once more after it had been dialled again this often, which is the maximum.
+    Tries { n: u32 },
+    /// A dial failed.
+    DialFault,
+    /// Fewer xids or STags are left than the call needs, or, once the link was lost, than the calls that would be sent again.
     Spent { left: u64, need: u64 },
     /// The call needs this many bytes, more than the limit `room`.
     TooLarge { need: u128, room: u32 },
     /// This many bytes were read, which is the maximum.
     Budget { read: u64 },
-    /// Memory ran out before the call was submitted.
+    /// Memory ran out before the call was submitted; or, once the link was lost, for the next one.
     Memory,
 }
 

@@ -1,13 +1,12 @@
 //! What a caller finds and does under one turn.
 
-ghost use Rattle.std.specs.Prelude.{◌≡◌, ◌<◌, None, true};
+ghost use Rattle.std.specs.Prelude.{◌≡◌};
 ghost use Rattle.nr_rpc.specs.Credential.{CanWriteCred};
 ghost use Rattle.nr_turnstile.specs.Passes.{seen_by, mine_of};
 ghost use Rattle.nr_turnstile.specs.Turns.{pass_of, IsSameTurn};
 ghost use Rattle.nr_shared.specs.Callers.{HasOpenCall, IsReady};
 ghost use Rattle.nr_shared.specs.private.CreditState.{IsCreditState};
-ghost use Rattle.nr_shared.specs.Histories.{stop_of};
-ghost use Rattle.nr_shared.specs.Output.{IsCallOutstanding};
+ghost use Rattle.nr_shared.specs.private.Needs.{IsNeeded};
 ghost use Rattle.nr_shared.specs.Sharing.{SaysCredit, SaysCreditOutOfMemory};
 ghost use Rattle.nr_shared.specs.Waiting.{IsSubmitTurn, IsPollTurn};
 
@@ -15,7 +14,7 @@ use crate::call_end::CallEnd;
 use crate::call_rule::CallRule;
 use crate::requester_with_sink::MainTurn;
 use crate::turns::{drain_under, forget_under, submit_under, try_take_under};
-use nr_outside::Sink;
+use nr_links::LinkSink;
 use nr_reduce::{Call, Form};
 use nr_requester::{Done, Take, Ticket};
 
@@ -41,6 +40,17 @@ pub enum SubmitTurn {
     Ended(CallEnd),
 }
 
+/// What a caller that waits needs of the link.
+#[derive(Clone, Copy)]
+pub enum Need {
+    /// Nothing: an end or the answer has come, or a call may be submitted.
+    Nothing,
+    /// More of the server's stream.
+    Input,
+    /// The next link: that at hand is lost, and may be dialled again.
+    Link,
+}
+
 /// Whether a call can be submitted.
 #[derive(Clone, Copy)]
 pub enum CreditState {
@@ -53,14 +63,14 @@ pub enum CreditState {
 }
 
 /// Takes the answer of a call of the pass's own, if it is there. If none comes any more, writes the output that is due, and forgets the call.
-pub(crate) fn poll_under<O: Sink, C: CallRule>(
+pub(crate) fn poll_under<O: LinkSink + Drop, C: CallRule>(
     turn: &mut MainTurn<'_, O, C>,
     ticket: Ticket,
 ) -> PollTurn
-    requires ready { IsReady O.taken O.faults C.allows turn.old }
+    requires ready { IsReady O.link O.taken O.faults C.allows turn.old }
     requires has_call { HasOpenCall (pass_of turn.old) ticket }
     ensures same { IsSameTurn turn.old turn.new }
-    ensures ready { IsReady O.taken O.faults C.allows turn.new }
+    ensures ready { IsReady O.link O.taken O.faults C.allows turn.new }
     ensures polled { IsPollTurn (pass_of turn.old) (pass_of turn.new) ticket result }
 {
     let with_sink = turn.value();
@@ -84,10 +94,10 @@ pub(crate) fn poll_under<O: Sink, C: CallRule>(
 }
 
 /// Whether a call may be submitted, or the link has ended.
-fn credit_state_under<O: Sink, C: CallRule>(turn: &mut MainTurn<'_, O, C>) -> CreditState
-    requires ready { IsReady O.taken O.faults C.allows turn.old }
+fn credit_state_under<O: LinkSink + Drop, C: CallRule>(turn: &mut MainTurn<'_, O, C>) -> CreditState
+    requires ready { IsReady O.link O.taken O.faults C.allows turn.old }
     ensures same { IsSameTurn turn.old turn.new }
-    ensures ready { IsReady O.taken O.faults C.allows turn.new }
+    ensures ready { IsReady O.link O.taken O.faults C.allows turn.new }
     ensures seen { seen_by (pass_of turn.new) ≡ seen_by (pass_of turn.old) }
     ensures mine { mine_of (pass_of turn.new) ≡ mine_of (pass_of turn.old) }
     ensures found { IsCreditState turn.new result }
@@ -104,16 +114,16 @@ fn credit_state_under<O: Sink, C: CallRule>(turn: &mut MainTurn<'_, O, C>) -> Cr
 }
 
 /// Writes the output that is due. Then, if a call may be submitted, submits this one and writes it.
-pub(crate) fn submit_if_credit_under<O: Sink, C: CallRule>(
+pub(crate) fn submit_if_credit_under<O: LinkSink + Drop, C: CallRule>(
     turn: &mut MainTurn<'_, O, C>,
     call: Call,
     form: Form,
 ) -> SubmitTurn
     requires writable { CanWriteCred call.cred }
     requires allowed { C.allows call form }
-    requires ready { IsReady O.taken O.faults C.allows turn.old }
+    requires ready { IsReady O.link O.taken O.faults C.allows turn.old }
     ensures same { IsSameTurn turn.old turn.new }
-    ensures ready { IsReady O.taken O.faults C.allows turn.new }
+    ensures ready { IsReady O.link O.taken O.faults C.allows turn.new }
     ensures submitted { IsSubmitTurn (pass_of turn.old) (pass_of turn.new) call form result }
 {
     drain_under(turn);
@@ -134,37 +144,27 @@ pub(crate) fn submit_if_credit_under<O: Sink, C: CallRule>(
     }
 }
 
-/// Whether more of the stream is needed: nothing has ended, a call is outstanding, and the answer of the call isn't there, or no call may be submitted.
-pub(crate) fn needs_input_under<O: Sink, C: CallRule>(
+/// What a caller needs that waits for the answer of a call, or to submit one.
+pub(crate) fn need_under<O: LinkSink + Drop, C: CallRule>(
     turn: &mut MainTurn<'_, O, C>,
     ticket: Option<&Ticket>,
-) -> bool
-    requires ready { IsReady O.taken O.faults C.allows turn.old }
+) -> Need
+    requires ready { IsReady O.link O.taken O.faults C.allows turn.old }
     ensures same { IsSameTurn turn.old turn.new }
-    ensures ready { IsReady O.taken O.faults C.allows turn.new }
+    ensures ready { IsReady O.link O.taken O.faults C.allows turn.new }
     ensures seen { seen_by (pass_of turn.new) ≡ seen_by (pass_of turn.old) }
     ensures mine { mine_of (pass_of turn.new) ≡ mine_of (pass_of turn.old) }
-    ensures needs_input { result ≡ true → stop_of (seen_by (pass_of turn.old)) ≡ None }
-    ensures outstanding { result ≡ true → IsCallOutstanding (seen_by (pass_of turn.old)) }
+    ensures need { IsNeeded result (seen_by (pass_of turn.old)) }
 {
     let with_sink = turn.value();
-    if with_sink.end().is_some() {
-        return false;
-    }
-    if with_sink.requester.outstanding() == 0 {
-        return false;
-    }
-    match ticket {
-        Some(ticket) => !with_sink.requester.has_outcome(ticket),
-        None => !with_sink.has_credit(),
-    }
+    with_sink.need(ticket)
 }
 
 /// Whether a call may be submitted.
-pub(crate) fn credit_under<O: Sink, C: CallRule>(turn: &mut MainTurn<'_, O, C>) -> bool
-    requires ready { IsReady O.taken O.faults C.allows turn.old }
+pub(crate) fn credit_under<O: LinkSink + Drop, C: CallRule>(turn: &mut MainTurn<'_, O, C>) -> bool
+    requires ready { IsReady O.link O.taken O.faults C.allows turn.old }
     ensures same { IsSameTurn turn.old turn.new }
-    ensures ready { IsReady O.taken O.faults C.allows turn.new }
+    ensures ready { IsReady O.link O.taken O.faults C.allows turn.new }
     ensures seen { seen_by (pass_of turn.new) ≡ seen_by (pass_of turn.old) }
     ensures mine { mine_of (pass_of turn.new) ≡ mine_of (pass_of turn.old) }
     ensures credit { SaysCredit result (seen_by (pass_of turn.old)) }

@@ -15,18 +15,23 @@ use crate::caller_turns::{PollTurn, SubmitTurn, credit_under, poll_under, submit
 use crate::requester_with_sink::MainPass;
 use crate::shared::{Pass, SharedRequester};
 use crate::turns::{drain_under, forget_under};
-use nr_outside::{Sink, Source};
+use nr_links::{Dialer, LinkSink, LinkSource};
 use nr_reduce::{Call, Form};
 use nr_requester::{Done, Ticket};
 use std::sync::Wait;
 
-impl<I: Source, O: Sink, C: CallRule> SharedRequester<I, O, C> {
+impl<
+    I: LinkSource + Drop,
+    O: LinkSink + Drop,
+    C: CallRule,
+    D: Dialer<Source = I, Sink = O>,
+> SharedRequester<I, O, C, D> {
     /// Makes a call that the rule allows, and waits for its outcome. It is submitted once a credit is left, and, if the client has a
     /// number, its xid is less than 64 above the least one of an outstanding call. If there is no outcome, a call that was submitted is forgotten.
     pub fn call<R: Wait>(
         &self,
         rt: &R,
-        pass: &mut Pass<I, O, C>,
+        pass: &mut Pass<I, O, C, D>,
         call: Call,
         form: Form,
     ) -> Result<Done, CallEnd>
@@ -51,7 +56,7 @@ impl<I: Source, O: Sink, C: CallRule> SharedRequester<I, O, C> {
     pub fn submit<R: Wait>(
         &self,
         rt: &R,
-        pass: &mut Pass<I, O, C>,
+        pass: &mut Pass<I, O, C, D>,
         call: Call,
         form: Form,
     ) -> Result<Ticket, CallEnd>
@@ -83,7 +88,7 @@ impl<I: Source, O: Sink, C: CallRule> SharedRequester<I, O, C> {
     pub fn wait<R: Wait>(
         &self,
         rt: &R,
-        pass: &mut Pass<I, O, C>,
+        pass: &mut Pass<I, O, C, D>,
         ticket: Ticket,
     ) -> Result<Done, CallEnd>
         requires rests { SharedRests self.now pass.old }
@@ -100,7 +105,7 @@ impl<I: Source, O: Sink, C: CallRule> SharedRequester<I, O, C> {
     fn await_outcome<R: Wait>(
         &self,
         rt: &R,
-        pass: &mut Pass<I, O, C>,
+        pass: &mut Pass<I, O, C, D>,
         ticket: Ticket,
     ) -> Result<Done, CallEnd>
         requires rests { SharedRests self.now pass.old }
@@ -122,7 +127,7 @@ impl<I: Source, O: Sink, C: CallRule> SharedRequester<I, O, C> {
     }
 
     /// Forgets a call of the pass's own, whether or not its answer has come.
-    pub fn forget<R: Wait>(&self, rt: &R, pass: &mut Pass<I, O, C>, ticket: Ticket)
+    pub fn forget<R: Wait>(&self, rt: &R, pass: &mut Pass<I, O, C, D>, ticket: Ticket)
         requires rests { SharedRests self.now pass.old }
         requires has_call { HasOpenCall pass.old.main ticket }
         ensures rests { SharedRests self.now pass.new }
@@ -134,7 +139,7 @@ impl<I: Source, O: Sink, C: CallRule> SharedRequester<I, O, C> {
 
     /// Whether at this moment a credit is left and, if the client has a number, the next xid is less than 64 above the least one of an
     /// outstanding call. If it has ended, only whether a credit is left.
-    pub fn has_credit<R: Wait>(&self, rt: &R, pass: &mut Pass<I, O, C>) -> bool
+    pub fn has_credit<R: Wait>(&self, rt: &R, pass: &mut Pass<I, O, C, D>) -> bool
         requires { SharedRests self.now pass.old }
         ensures rests { SharedRests self.now pass.new }
         ensures source { seen_by pass.new.source ≡ seen_by pass.old.source }

@@ -4,7 +4,7 @@ use nr_reduce::{Call, Form, Outcome};
 use nr_requester::Requester;
 use std::collections::LinkedList;
 
-/// Why no more bytes are fed.
+/// Why no more bytes are fed over the link at hand.
 #[derive(Clone, Copy, PartialEq, Eq)]
 pub enum Stop {
     /// A read failed.
@@ -15,16 +15,32 @@ pub enum Stop {
     Budget,
     /// Memory ran out for a frame: the requester ended so.
     Memory,
+    /// A dial failed: there is no link any more.
+    DialFault,
+    /// The link was lost, and fewer STags are left than the calls need that would be sent again.
+    Spent { left: u64, need: u64 },
+    /// The link was lost, and memory ran out for the next one.
+    NotReopened,
 }
 
-/// A requester and its sink when they were shared.
+/// The sink of a link when its bytes began to move here.
+pub struct InitialSink {
+    /// The number of its link.
+    pub link: u64,
+    /// Its fault count.
+    pub faults: u64,
+    /// The bytes that it had taken, if they are known.
+    pub taken: Option<LinkedList<u8>>,
+}
+
+/// A requester and its sink when they were shared, and how often a lost link may be dialled again: never, if that isn't told.
 pub struct InitialState {
     /// The requester.
     pub requester: Requester,
-    /// The fault count of the sink.
-    pub faults: u64,
-    /// The bytes that the sink had taken, if they are known.
-    pub taken: Option<LinkedList<u8>>,
+    /// The sink.
+    pub sink: InitialSink,
+    /// How often.
+    pub tries: Option<u32>,
 }
 
 /// An entry. `submit` is the place of the call's Submit, which the entry closes. `previous` is the place of the entry that fed
@@ -32,6 +48,11 @@ pub struct InitialState {
 pub enum Entry {
     /// The requester was shared, in this state.
     Initial(InitialState),
+    /// A lost link was left, and the requester reopened. `sink` is that of the next link; there is none if its dial failed.
+    Rejoin {
+        sink: Option<InitialSink>,
+        previous: u64,
+    },
     /// A call was accepted.
     Submit {
         call: Call,
@@ -42,7 +63,7 @@ pub enum Entry {
     Wrote {
         bytes: LinkedList<u8>,
     },
-    /// Bytes were fed.
+    /// Bytes were fed. Then the calls were sent again that could be.
     Fed {
         bytes: LinkedList<u8>,
         previous: u64,

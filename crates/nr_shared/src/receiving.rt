@@ -4,34 +4,42 @@ ghost use Rattle.std.specs.Prelude.{◌≡◌, ◌≢◌, ◌+◌, ◌<◌, ◌�
 ghost use Rattle.nr_links.specs.Limits.{read_max};
 ghost use Rattle.nr_turnstile.specs.Passes.{Rests, home_of, id_of, seen_by, mine_of};
 ghost use Rattle.nr_turnstile.specs.Rule.{Lies};
-ghost use Rattle.nr_shared.specs.declared.entry.Stop.TheVariants as causes;
+ghost use Rattle.nr_shared.specs.declared.entry.Entry.TheVariants as entries;
 ghost use Rattle.nr_shared.specs.declared.source_reader.InitialSource.{InitialSource};
 ghost use Rattle.nr_shared.specs.Callers.{IsFeeding};
+ghost use Rattle.nr_shared.specs.Draining.{fed_entry};
 ghost use Rattle.nr_shared.specs.Feeding.{FeedsFor};
-ghost use Rattle.nr_shared.specs.Histories.{bytes_fed, stop_of};
-ghost use Rattle.nr_shared.specs.Output.{IsCallOutstanding};
+ghost use Rattle.nr_shared.specs.Histories.{bytes_fed, present, present_after, stop_of, tries_of};
+ghost use Rattle.nr_shared.specs.private.Reading.{IsReadEnd, read_part};
+ghost use Rattle.nr_shared.specs.Output.{IsCallOutstanding, MayFeed};
 
 use crate::call_rule::CallRule;
-use crate::caller_turns::needs_input_under;
 use crate::entry::Stop;
+use crate::redialing::input_or_link_under;
 use crate::requester_with_sink::MainPass;
 use crate::shared::SharedRequester;
-use crate::source_reader::SourceReader;
+use crate::source_reader::{SourceReader, read_piece};
 use crate::turns::{drain_under, feed_under, stop_under};
-use nr_outside::{Sink, Source};
+use nr_links::{Dialer, LinkSink, LinkSource};
 use nr_requester::Ticket;
 use std::sync::Wait;
 
-impl<I: Source, O: Sink, C: CallRule> SharedRequester<I, O, C> {
-    // The source's turn: reads a piece and feeds it, if the answer of the call isn't there, or no credit is left.
+impl<
+    I: LinkSource + Drop,
+    O: LinkSink + Drop,
+    C: CallRule,
+    D: Dialer<Source = I, Sink = O>,
+> SharedRequester<I, O, C, D> {
+    // The source's turn: reads a piece and feeds it, or dials again if the link is lost, if the answer of the call isn't there, or no call may be
+    // submitted.
     pub(crate) fn receive<R: Wait>(
         &self,
         rt: &R,
-        source: &mut nr_turnstile::Pass<SourceReader<I, O, C>>,
+        source: &mut nr_turnstile::Pass<SourceReader<I, O, C, D>>,
         ticket: Option<&Ticket>,
     )
         requires rests { Rests self.now.source source.old }
-        requires initial_source { (b : InitialSource I O C) × ((seen_by source.old ≡ b ∷ []) × (home_of b.pass.value ≡ id_of self.now.main)) }
+        requires initial_source { (b : InitialSource I O C D) × ((seen_by source.old ≡ b ∷ []) × (home_of b.pass.value ≡ id_of self.now.main)) }
         ensures rests { Rests self.now.source source.new }
         ensures seen { seen_by source.new ≡ seen_by source.old }
     {
@@ -45,45 +53,56 @@ impl<I: Source, O: Sink, C: CallRule> SharedRequester<I, O, C> {
     fn receive_piece<R: Wait>(
         &self,
         rt: &R,
-        reader: &mut SourceReader<I, O, C>,
+        reader: &mut SourceReader<I, O, C, D>,
         ticket: Option<&Ticket>,
     )
-        requires { (b : InitialSource I O C) × (FeedsFor I.left I.given I.faults b reader.old × (home_of b.pass.value ≡ id_of self.now.main)) }
-        ensures { (b : InitialSource I O C) → FeedsFor I.left I.given I.faults b reader.old → home_of b.pass.value ≡ id_of self.now.main → FeedsFor I.left I.given I.faults b reader.new }
+        requires { (b : InitialSource I O C D) × (FeedsFor I.link I.left I.given I.faults D.ended D.faults b reader.old × (home_of b.pass.value ≡ id_of self.now.main)) }
+        ensures { (b : InitialSource I O C D) → FeedsFor I.link I.left I.given I.faults D.ended D.faults b reader.old → home_of b.pass.value ≡ id_of self.now.main → FeedsFor I.link I.left I.given I.faults D.ended D.faults b reader.new }
     {
-        if !self.needs_input(rt, &mut reader.pass, ticket) {
+        if !self.needs_input(rt, reader, ticket) {
             return;
         }
-        match reader.read_piece() {
+        let SourceReader {
+            source,
+            pass,
+            read,
+            buf,
+            ..
+        } = reader;
+        let Some(source) = source else {
+            unreachable!();
+        };
+        match read_piece(source, buf.as_mut_slice(), read) {
             Ok(n) => {
-                let (piece, _) = reader.buf.split_at(n);
-                self.feed(rt, &mut reader.pass, piece);
+                let (piece, _) = buf.split_at(n);
+                self.feed(rt, pass, piece);
             }
-            Err(cause) => self.stop(rt, &mut reader.pass, cause),
+            Err(cause) => self.stop(rt, pass, cause),
         }
     }
 
-    // Writes the output that is due. Whether more of the stream is needed, by the pass that feeds: then a call is outstanding.
+    // Writes the output that is due. Whether more of the stream is needed, by the pass that feeds: then a call is outstanding. If the next link is
+    // needed, dials it under the same turn.
     fn needs_input<R: Wait>(
         &self,
         rt: &R,
-        feeding: &mut MainPass<O, C>,
+        reader: &mut SourceReader<I, O, C, D>,
         ticket: Option<&Ticket>,
     ) -> bool
-        requires rests { Rests self.now.main feeding.old }
-        requires feeding { IsFeeding feeding.old }
-        requires lies { Lies (seen_by feeding.old) (mine_of feeding.old) }
-        ensures rests { Rests self.now.main feeding.new }
-        ensures feeding { IsFeeding feeding.new }
-        ensures lies { Lies (seen_by feeding.new) (mine_of feeding.new) }
-        ensures fed { bytes_fed (seen_by feeding.new) ≡ bytes_fed (seen_by feeding.old) }
-        ensures stop { stop_of (seen_by feeding.new) ≡ stop_of (seen_by feeding.old) }
-        ensures needs_input { result ≡ true → stop_of (seen_by feeding.new) ≡ None }
-        ensures outstanding { result ≡ true → IsCallOutstanding (seen_by feeding.new) }
+        requires { (b : InitialSource I O C D) × (FeedsFor I.link I.left I.given I.faults D.ended D.faults b reader.old × (home_of b.pass.value ≡ id_of self.now.main)) }
+        ensures reads { (b : InitialSource I O C D) → FeedsFor I.link I.left I.given I.faults D.ended D.faults b reader.old → home_of b.pass.value ≡ id_of self.now.main → FeedsFor I.link I.left I.given I.faults D.ended D.faults b reader.new }
+        ensures needs_input { result ≡ true → MayFeed (seen_by reader.new.pass) }
     {
-        let mut turn = self.main.take_turn(rt, feeding);
+        let SourceReader {
+            source,
+            dialer,
+            addr,
+            pass,
+            ..
+        } = reader;
+        let mut turn = self.main.take_turn(rt, pass);
         drain_under(&mut turn);
-        let needs_input = needs_input_under(&mut turn, ticket);
+        let needs_input = input_or_link_under(&mut turn, ticket, source, dialer, addr.as_str());
         turn.put_back();
         needs_input
     }
@@ -101,7 +120,8 @@ impl<I: Source, O: Sink, C: CallRule> SharedRequester<I, O, C> {
         ensures feeding { IsFeeding feeding.new }
         ensures lies { Lies (seen_by feeding.new) (mine_of feeding.new) }
         ensures fed { bytes_fed (seen_by feeding.new) ≡ bytes_fed (seen_by feeding.old) ++ piece.now }
-        ensures stop { MatchBool result (stop_of (seen_by feeding.new) ≡ Some causes.Memory) (stop_of (seen_by feeding.new) ≡ None) }
+        ensures present { read_part (present (seen_by feeding.new)) ≡ present_after (read_part (present (seen_by feeding.old))) (fed_entry result piece.now 0) }
+        ensures tries { tries_of (seen_by feeding.new) ≡ tries_of (seen_by feeding.old) }
     {
         let mut turn = self.main.take_turn(rt, feeding);
         drain_under(&mut turn);
@@ -118,12 +138,13 @@ impl<I: Source, O: Sink, C: CallRule> SharedRequester<I, O, C> {
         requires lies { Lies (seen_by feeding.old) (mine_of feeding.old) }
         requires goes { stop_of (seen_by feeding.old) ≡ None }
         requires outstanding { IsCallOutstanding (seen_by feeding.old) }
-        requires cause { cause ≢ causes.Memory }
+        requires cause { IsReadEnd cause }
         ensures rests { Rests self.now.main feeding.new }
         ensures feeding { IsFeeding feeding.new }
         ensures lies { Lies (seen_by feeding.new) (mine_of feeding.new) }
-        ensures stopped { stop_of (seen_by feeding.new) ≡ Some cause }
         ensures fed { bytes_fed (seen_by feeding.new) ≡ bytes_fed (seen_by feeding.old) }
+        ensures present { read_part (present (seen_by feeding.new)) ≡ present_after (read_part (present (seen_by feeding.old))) (entries.Stopped cause 0) }
+        ensures tries { tries_of (seen_by feeding.new) ≡ tries_of (seen_by feeding.old) }
     {
         let mut turn = self.main.take_turn(rt, feeding);
         stop_under(&mut turn, cause);

@@ -18,7 +18,7 @@ ghost use Rattle.nr_shared.specs.Adding.{Adds};
 ghost use Rattle.nr_shared.specs.Callers.{Writes};
 ghost use Rattle.nr_shared.specs.Waiting.{ForgetsCall, IsTakeTurn, RevokesCall};
 ghost use Rattle.nr_shared.specs.Draining.{fed_after, stopped_after};
-ghost use Rattle.nr_shared.specs.Output.{IsCallOutstanding};
+ghost use Rattle.nr_shared.specs.Output.{IsCallOutstanding, MayStop};
 ghost use Rattle.nr_shared.specs.declared.entry.Stop.TheVariants as causes;
 ghost use Rattle.nr_links.specs.Limits.{read_max};
 
@@ -29,23 +29,23 @@ use crate::appending::{
 use crate::call_rule::CallRule;
 use crate::entry::Stop;
 use crate::requester_with_sink::{Drained, MainTurn};
-use nr_outside::Sink;
+use nr_links::LinkSink;
 use nr_reduce::{Call, Form, Refused};
 use nr_requester::{Buffers, Take, Ticket};
 use std::marker::Brand;
 use std::snapshot::Snapshot;
 
 /// Submits a call.
-pub(crate) fn submit_under<O: Sink, C: CallRule>(
+pub(crate) fn submit_under<O: LinkSink + Drop, C: CallRule>(
     turn: &mut MainTurn<'_, O, C>,
     call: Call,
     form: Form,
 ) -> Result<Ticket, (Call, Refused)>
     requires writable { CanWriteCred call.cred }
     requires allowed { C.allows call form }
-    requires ready { IsReady O.taken O.faults C.allows turn.old }
+    requires ready { IsReady O.link O.taken O.faults C.allows turn.old }
     ensures same { IsSameTurn turn.old turn.new }
-    ensures ready { IsReady O.taken O.faults C.allows turn.new }
+    ensures ready { IsReady O.link O.taken O.faults C.allows turn.new }
     ensures accepted { IfOk result (λ xid. Adds (pass_of turn.old) (pass_of turn.new) (entries.Submit call form xid ∷ []) × HasOpenCall (pass_of turn.new) xid) }
     ensures refused { OnErr result (Adds (pass_of turn.old) (pass_of turn.new) []) }
     ensures returned { IfErr result (λ e. e.0 ≡ call) }
@@ -69,14 +69,14 @@ pub(crate) fn submit_under<O: Sink, C: CallRule>(
 }
 
 /// Takes the answer of a call of the pass's own; or the call comes back with its buffers, if the requester has ended before.
-pub(crate) fn try_take_under<O: Sink, C: CallRule>(
+pub(crate) fn try_take_under<O: LinkSink + Drop, C: CallRule>(
     turn: &mut MainTurn<'_, O, C>,
     ticket: Ticket,
 ) -> Take
-    requires ready { IsReady O.taken O.faults C.allows turn.old }
+    requires ready { IsReady O.link O.taken O.faults C.allows turn.old }
     requires has_call { HasOpenCall (pass_of turn.old) ticket }
     ensures same { IsSameTurn turn.old turn.new }
-    ensures ready { IsReady O.taken O.faults C.allows turn.new }
+    ensures ready { IsReady O.link O.taken O.faults C.allows turn.new }
     ensures taken { IsTakeTurn (pass_of turn.old) (pass_of turn.new) ticket result }
     ensures there { ((y : RequesterWithSink O C) → Has turn.old y → is_some (found_answer ticket y.requester.state) ≡ true) → IsDone result }
 {
@@ -98,11 +98,14 @@ pub(crate) fn try_take_under<O: Sink, C: CallRule>(
 }
 
 /// Forgets a call of the pass's own.
-pub(crate) fn forget_under<O: Sink, C: CallRule>(turn: &mut MainTurn<'_, O, C>, ticket: Ticket)
-    requires ready { IsReady O.taken O.faults C.allows turn.old }
+pub(crate) fn forget_under<O: LinkSink + Drop, C: CallRule>(
+    turn: &mut MainTurn<'_, O, C>,
+    ticket: Ticket,
+)
+    requires ready { IsReady O.link O.taken O.faults C.allows turn.old }
     requires has_call { HasOpenCall (pass_of turn.old) ticket }
     ensures same { IsSameTurn turn.old turn.new }
-    ensures ready { IsReady O.taken O.faults C.allows turn.new }
+    ensures ready { IsReady O.link O.taken O.faults C.allows turn.new }
     ensures forgotten { ForgetsCall (pass_of turn.old) (pass_of turn.new) ticket }
     ensures seen { seen_by (pass_of turn.new) ≡ seen_by (pass_of turn.old) ++ forget_by (seen_by (pass_of turn.old)) ticket ∷ [] }
 {
@@ -113,10 +116,10 @@ pub(crate) fn forget_under<O: Sink, C: CallRule>(turn: &mut MainTurn<'_, O, C>, 
 }
 
 /// Hands the output to the sink, unless a write failed before.
-pub(crate) fn drain_under<O: Sink, C: CallRule>(turn: &mut MainTurn<'_, O, C>)
-    requires ready { IsReady O.taken O.faults C.allows turn.old }
+pub(crate) fn drain_under<O: LinkSink + Drop, C: CallRule>(turn: &mut MainTurn<'_, O, C>)
+    requires ready { IsReady O.link O.taken O.faults C.allows turn.old }
     ensures same { IsSameTurn turn.old turn.new }
-    ensures ready { IsReady O.taken O.faults C.allows turn.new }
+    ensures ready { IsReady O.link O.taken O.faults C.allows turn.new }
     ensures wrote { Writes (pass_of turn.old) (pass_of turn.new) }
     ensures flushed { HasFlushed turn.new }
 {
@@ -135,14 +138,14 @@ pub(crate) fn drain_under<O: Sink, C: CallRule>(turn: &mut MainTurn<'_, O, C>)
 }
 
 /// Revokes the memory of a call of the pass's own.
-pub(crate) fn revoke_under<O: Sink, C: CallRule>(
+pub(crate) fn revoke_under<O: LinkSink + Drop, C: CallRule>(
     turn: &mut MainTurn<'_, O, C>,
     ticket: Ticket,
 ) -> (Call, Buffers)
-    requires ready { IsReady O.taken O.faults C.allows turn.old }
+    requires ready { IsReady O.link O.taken O.faults C.allows turn.old }
     requires has_call { HasOpenCall (pass_of turn.old) ticket }
     ensures same { IsSameTurn turn.old turn.new }
-    ensures ready { IsReady O.taken O.faults C.allows turn.new }
+    ensures ready { IsReady O.link O.taken O.faults C.allows turn.new }
     ensures revoked { RevokesCall (pass_of turn.old) (pass_of turn.new) ticket result.0 result.1 }
 {
     let xid = ticket.xid();
@@ -154,8 +157,11 @@ pub(crate) fn revoke_under<O: Sink, C: CallRule>(
 }
 
 /// Feeds a piece that was read, after a drain. Answers whether memory ran out for a frame of it.
-pub(crate) fn feed_under<O: Sink, C: CallRule>(turn: &mut MainTurn<'_, O, C>, piece: &[u8]) -> bool
-    requires ready { IsReady O.taken O.faults C.allows turn.old }
+pub(crate) fn feed_under<O: LinkSink + Drop, C: CallRule>(
+    turn: &mut MainTurn<'_, O, C>,
+    piece: &[u8],
+) -> bool
+    requires ready { IsReady O.link O.taken O.faults C.allows turn.old }
     requires feeding { IsFeeding (pass_of turn.old) }
     requires goes { (y : RequesterWithSink O C) → Has turn.old y → y.stopped ≡ None }
     requires flushed { HasFlushed turn.old }
@@ -163,7 +169,7 @@ pub(crate) fn feed_under<O: Sink, C: CallRule>(turn: &mut MainTurn<'_, O, C>, pi
     requires some { 0 < length piece.now }
     requires room { length (bytes_fed (seen_by (pass_of turn.old))) + length piece.now ≤ read_max }
     ensures same { IsSameTurn turn.old turn.new }
-    ensures ready { IsReady O.taken O.faults C.allows turn.new }
+    ensures ready { IsReady O.link O.taken O.faults C.allows turn.new }
     ensures feeding { IsFeeding (pass_of turn.new) }
     ensures seen { seen_by (pass_of turn.new) ≡ seen_by (pass_of turn.old) ++ fed_after (seen_by (pass_of turn.old)) result piece.now ∷ [] }
     ensures fed { Adds (pass_of turn.old) (pass_of turn.new) (fed_after (seen_by (pass_of turn.old)) result piece.now ∷ []) }
@@ -174,15 +180,17 @@ pub(crate) fn feed_under<O: Sink, C: CallRule>(turn: &mut MainTurn<'_, O, C>, pi
     out_of_memory
 }
 
-/// No more is fed.
-pub(crate) fn stop_under<O: Sink, C: CallRule>(turn: &mut MainTurn<'_, O, C>, cause: Stop)
-    requires ready { IsReady O.taken O.faults C.allows turn.old }
+/// No more is fed over the link at hand.
+pub(crate) fn stop_under<O: LinkSink + Drop, C: CallRule>(
+    turn: &mut MainTurn<'_, O, C>,
+    cause: Stop,
+)
+    requires ready { IsReady O.link O.taken O.faults C.allows turn.old }
     requires feeding { IsFeeding (pass_of turn.old) }
-    requires goes { (y : RequesterWithSink O C) → Has turn.old y → y.stopped ≡ None }
     requires cause { cause ≢ causes.Memory }
-    requires outstanding { IsCallOutstanding (seen_by (pass_of turn.old)) }
+    requires may { MayStop cause (seen_by (pass_of turn.old)) }
     ensures same { IsSameTurn turn.old turn.new }
-    ensures ready { IsReady O.taken O.faults C.allows turn.new }
+    ensures ready { IsReady O.link O.taken O.faults C.allows turn.new }
     ensures feeding { IsFeeding (pass_of turn.new) }
     ensures seen { seen_by (pass_of turn.new) ≡ seen_by (pass_of turn.old) ++ stopped_after (seen_by (pass_of turn.old)) cause ∷ [] }
     ensures stopped { Adds (pass_of turn.old) (pass_of turn.new) (stopped_after (seen_by (pass_of turn.old)) cause ∷ []) }

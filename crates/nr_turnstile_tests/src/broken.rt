@@ -60,9 +60,8 @@ fn next_back(rt: &impl Abort, alloc: Global, remains: &mut Remains) -> Option<(u
 fn come_back(rt: &(impl Abort + Wait), alloc: Global, shared: Shared, pass: Caller)
     requires { SharedRests shared pass }
 {
-    let (requester, source, sink) = shared.close(rt, pass);
-    drop(source);
-    drop(sink);
+    let (requester, link, _) = shared.close(rt, pass);
+    drop(link);
     let mut remains = requester.dismantle();
     same(rt, 2, next_back(rt, alloc, &mut remains), Some((0, false)));
     same(rt, 3, next_back(rt, alloc, &mut remains), Some((7, true)));

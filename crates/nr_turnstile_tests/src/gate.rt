@@ -156,8 +156,12 @@ fn carried(rt: &(impl Abort + Wait), row: usize, lent: (Shared, Caller), want: u
     requires { SharedRests lent.0 lent.1 }
 {
     let (shared, pass) = lent;
-    let (_, _, sink) = shared.close(rt, pass);
-    same(rt, row, sink.inner.bytes().len(), want);
+    let (_, link, _) = shared.close(rt, pass);
+    let taken = match &link {
+        Some((_, sink)) => sink.inner.bytes().len(),
+        None => 0,
+    };
+    same(rt, row, taken, want);
 }
 
 /// The connection of a row, where these reads of the remote link fail.

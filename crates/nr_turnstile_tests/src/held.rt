@@ -1,5 +1,6 @@
 //! A link whose source waits for what its sink is sent.
 
+use nr_links::{LinkSink, LinkSource};
 use nr_outside::{Failed, Sink, Source};
 use std::alloc::Global;
 use std::sync::Arc;
@@ -54,6 +55,16 @@ impl Peer {
         self.late.store(1, Ordering::SeqCst);
     }
 
+    /// Says that a read waits, or a dial.
+    pub fn read_begins(&self) {
+        self.reading.store(1, Ordering::SeqCst);
+    }
+
+    /// Waits until a caller has looked, or the turns are used up.
+    pub fn wait_for_look(&self) {
+        self.wait_for(&self.looked, 1);
+    }
+
     /// Says that a caller has looked.
     pub fn look(&self) {
         self.looked.store(1, Ordering::SeqCst);
@@ -87,6 +98,14 @@ impl<S: Source> Source for HeldSource<S> {
     }
 }
 
+impl<S: Source> LinkSource for HeldSource<S> {
+    ghost link = { λ s. 0 };
+
+    fn read_link(&mut self, buf: &mut [u8]) -> Result<usize, Failed> {
+        self.read(buf)
+    }
+}
+
 /// A sink that takes what another takes, and counts it for the peer. If it is held, it then waits until another caller has looked.
 #[derive(Drop)]
 pub struct HeldSink<K> {
@@ -113,5 +132,17 @@ impl<K: Sink> Sink for HeldSink<K> {
             }
             Err(Failed) => Err(Failed),
         }
+    }
+}
+
+impl<K: Sink> LinkSink for HeldSink<K> {
+    ghost link = { λ s. 0 };
+
+    fn write_link(&mut self, piece: &[u8]) -> Result<usize, Failed> {
+        self.write(piece)
+    }
+
+    fn write_link_vectored(&mut self, head: &[u8], body: &[u8]) -> Result<usize, Failed> {
+        self.write_vectored(head, body)
     }
 }

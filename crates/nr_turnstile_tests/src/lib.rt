@@ -33,6 +33,8 @@ mod open;
 #[cfg(test)]
 mod pumping;
 #[cfg(test)]
+mod redials;
+#[cfg(test)]
 mod shared;
 #[cfg(test)]
 mod sharing;

@@ -79,7 +79,10 @@ fn given_back(
 {
     let (shared, pass) = lent;
     let (written, left, outstanding) = want;
-    let (requester, mut source, sink) = shared.close(rt, pass);
+    let (requester, link, _) = shared.close(rt, pass);
+    let Some((mut source, sink)) = link else {
+        panic!(rt; "no link");
+    };
     let mut sent = Vec::new(alloc);
     append_words(rt, &mut sent, &SENT);
     sent.truncate(written);

@@ -1,12 +1,13 @@
 //! A shared requester over a source and a sink in memory, and NULL calls of it.
 
-ghost use Rattle.std.specs.Prelude.{◌≤◌, ◌^◌, [], ◌∷◌};
+ghost use Rattle.std.specs.Prelude.{◌≤◌, ◌^◌, [], ◌∷◌, None};
 ghost use Rattle.nr_rpc.specs.Credential.{CanWriteCred};
 ghost use Rattle.nr_shared.specs.Opening.{IsInitialHistory};
 ghost use Rattle.nr_shared.specs.Sharing.{SharedRests};
 
 use crate::held::{HeldSink, HeldSource, Peer};
-use nr_outside::{MemSink, MemSource, Sink, Source};
+use nr_links::{LinkSink, LinkSource};
+use nr_outside::{MemSink, MemSource};
 use nr_reduce::{Call, Outcome};
 use nr_requester::{Done, Requester};
 use nr_rpc::Cred;
@@ -81,6 +82,9 @@ pub enum Answer {
     Closed,
     /// The maximum of bytes was read.
     Budget,
+    /// The link was lost once more than it may be dialled again.
+    Tries,
+    DialFault,
     /// The call was revoked.
     Revoked,
     /// The turn was taken, and the call and its form came back.
@@ -129,7 +133,7 @@ pub fn null(alloc: Global, prog: u32) -> Call
 }
 
 /// Shares a requester, of whose source `read` bytes were read before. `K` is the entry of its initial state, for the proof.
-fn shared<K: Appended, I: Source, O: Sink>(
+fn shared<K: Appended, I: LinkSource + Drop, O: LinkSink + Drop>(
     rt: &(impl Abort + Wait),
     alloc: Global,
     requester: Requester,
@@ -137,10 +141,7 @@ fn shared<K: Appended, I: Source, O: Sink>(
     sink: O,
     read: u64,
 ) -> (SharedRequester<I, O, AnyCall>, Pass<I, O, AnyCall>)
-where
-    I: Drop,
-    O: Drop,
-    requires initial { IsInitialHistory O.taken O.faults requester sink (K.entry ∷ []) }
+    requires initial { IsInitialHistory O.link O.taken O.faults requester sink None (K.entry ∷ []) }
     requires read { read ≤ 2 ^ 40 }
     ensures { SharedRests result.0 result.1 }
 {
@@ -217,6 +218,8 @@ pub fn end_of(end: &CallEnd) -> Answer {
         CallEnd::LinkRead => Answer::LinkRead,
         CallEnd::LinkWrite => Answer::LinkWrite,
         CallEnd::Closed => Answer::Closed,
+        CallEnd::Tries { .. } => Answer::Tries,
+        CallEnd::DialFault => Answer::DialFault,
         CallEnd::Budget { read } => {
             if *read == READ_MAX {
                 Answer::Budget

@@ -12,11 +12,11 @@ use Rattle.nr_shared.specs.Standing.{Stands}
 use Rattle.nr_reduce.specs.declared.call.Form.{Form}
 
 -- The value, which stood for this history, in which the call stands at this place, stands for it with the entry of the take.
-abbrev pub TakenBy : {O C : Type 0} → (O → Option (List ℕ)) → (O → ℕ) → (Call → Form → Type 0) → List Entry → (xid k : ℕ) → Call → Take → RequesterWithSink O C → Type 0
-TakenBy taken faults allows history xid k call (takes.Done done) m = Stands taken faults allows m (history ++ entries.Done xid done.outcome k ∷ []) × ((done.call ≡ call) × HavePlaced xid done.buffers history)
-TakenBy taken faults allows history xid k call (takes.NotYet ticket) m = Stands taken faults allows m history × ((ticket ≡ xid) × IsAwaitedStill xid history)
-TakenBy taken faults allows history xid k call (takes.Failed c buffers end) m =
-    Stands taken faults allows m (history ++ lost_entry end xid buffers k ∷ []) × ((c ≡ call) × (HasEnded end history × IsLostWith xid buffers history))
+abbrev pub TakenBy : {O C : Type 0} → (O → ℕ) → (O → Option (List ℕ)) → (O → ℕ) → (Call → Form → Type 0) → List Entry → (xid k : ℕ) → Call → Take → RequesterWithSink O C → Type 0
+TakenBy link taken faults allows history xid k call (takes.Done done) m = Stands link taken faults allows m (history ++ entries.Done xid done.outcome k ∷ []) × ((done.call ≡ call) × HavePlaced xid done.buffers history)
+TakenBy link taken faults allows history xid k call (takes.NotYet ticket) m = Stands link taken faults allows m history × ((ticket ≡ xid) × IsAwaitedStill xid history)
+TakenBy link taken faults allows history xid k call (takes.Failed c buffers end) m =
+    Stands link taken faults allows m (history ++ lost_entry end xid buffers k ∷ []) × ((c ≡ call) × (HasEnded end history × IsLostWith xid buffers history))
 
 -- the answer was there
 abbrev pub IsDone : Take → Type 0

@@ -14,7 +14,7 @@ returns-clause-ready g c =
     record {
       value = f;
       has = (r.has.0, written _ _ f e, r.has.2);
-      stands = subst (λ (z : RequesterWithSink g.row.O.Denot g.row.C.Denot). Stands g.O.Sink.taken g.O.Sink.faults g.C.CallRule.allows z (seen_by (pass_of c.args.turn.now))) (same_value _ r.value f r.has.1 e) r.stands;
+      stands = subst (λ (z : RequesterWithSink g.row.O.Denot g.row.C.Denot). Stands g.O.LinkSink.link g.O.Sink.taken g.O.Sink.faults g.C.CallRule.allows z (seen_by (pass_of c.args.turn.now))) (same_value _ r.value f r.has.1 e) r.stands;
       lies = r.lies;
       earlier = r.earlier;
     }
@@ -22,11 +22,11 @@ returns-clause-ready g c =
 pub returns-clause-credit : goal.returns-clause-credit
 returns-clause-credit g c =
     let r = c.requires.ready in let f = c.value-with_sink.result.now in let seen = seen_by (pass_of c.args.turn.now) in
-    let st : Stands g.O.Sink.taken g.O.Sink.faults g.C.CallRule.allows f seen = subst (λ (z : RequesterWithSink g.row.O.Denot g.row.C.Denot). Stands g.O.Sink.taken g.O.Sink.faults g.C.CallRule.allows z seen) (same_value _ r.value f r.has.1 c.value-with_sink.ensures.value) r.stands in
-    subst (λ b. SaysCredit b seen) (sym c.has_credit.ensures) (says_credit g.O.Sink.taken g.O.Sink.faults g.C.CallRule.allows f seen st)
+    let st : Stands g.O.LinkSink.link g.O.Sink.taken g.O.Sink.faults g.C.CallRule.allows f seen = subst (λ (z : RequesterWithSink g.row.O.Denot g.row.C.Denot). Stands g.O.LinkSink.link g.O.Sink.taken g.O.Sink.faults g.C.CallRule.allows z seen) (same_value _ r.value f r.has.1 c.value-with_sink.ensures.value) r.stands in
+    subst (λ b. SaysCredit b seen) (sym c.has_credit.ensures) (says_credit g.O.LinkSink.link g.O.Sink.taken g.O.Sink.faults g.C.CallRule.allows f seen st)
 
 pub returns-clause-credit_out_of_memory : goal.returns-clause-credit_out_of_memory
 returns-clause-credit_out_of_memory g c =
     let r = c.requires.ready in let f = c.value-with_sink.result.now in let seen = seen_by (pass_of c.args.turn.now) in
-    let st : Stands g.O.Sink.taken g.O.Sink.faults g.C.CallRule.allows f seen = subst (λ (z : RequesterWithSink g.row.O.Denot g.row.C.Denot). Stands g.O.Sink.taken g.O.Sink.faults g.C.CallRule.allows z seen) (same_value _ r.value f r.has.1 c.value-with_sink.ensures.value) r.stands in
-    subst (λ b. SaysCreditOutOfMemory b seen) (sym c.has_credit.ensures) (says_credit_out_of_memory g.O.Sink.taken g.O.Sink.faults g.C.CallRule.allows f seen st)
+    let st : Stands g.O.LinkSink.link g.O.Sink.taken g.O.Sink.faults g.C.CallRule.allows f seen = subst (λ (z : RequesterWithSink g.row.O.Denot g.row.C.Denot). Stands g.O.LinkSink.link g.O.Sink.taken g.O.Sink.faults g.C.CallRule.allows z seen) (same_value _ r.value f r.has.1 c.value-with_sink.ensures.value) r.stands in
+    subst (λ b. SaysCreditOutOfMemory b seen) (sym c.has_credit.ensures) (says_credit_out_of_memory g.O.LinkSink.link g.O.Sink.taken g.O.Sink.faults g.C.CallRule.allows f seen st)

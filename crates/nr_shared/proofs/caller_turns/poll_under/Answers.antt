@@ -28,7 +28,7 @@ try_take_under-requires-clause-ready g c =
     record {
       value = f;
       has = (r.has.0, written _ _ f e, r.has.2);
-      stands = subst (λ (z : RequesterWithSink g.row.O.Denot g.row.C.Denot). Stands g.O.Sink.taken g.O.Sink.faults g.C.CallRule.allows z (seen_by (pass_of c.args.turn.now))) (same_value _ r.value f r.has.1 e) r.stands;
+      stands = subst (λ (z : RequesterWithSink g.row.O.Denot g.row.C.Denot). Stands g.O.LinkSink.link g.O.Sink.taken g.O.Sink.faults g.C.CallRule.allows z (seen_by (pass_of c.args.turn.now))) (same_value _ r.value f r.has.1 e) r.stands;
       lies = r.lies;
       earlier = r.earlier;
     }
@@ -40,7 +40,7 @@ drain_under-requires g c =
       ready = record {
         value = f;
         has = (r.has.0, written _ _ f e, r.has.2);
-        stands = subst (λ (z : RequesterWithSink g.row.O.Denot g.row.C.Denot). Stands g.O.Sink.taken g.O.Sink.faults g.C.CallRule.allows z (seen_by (pass_of c.args.turn.now))) (same_value _ r.value f r.has.1 e) r.stands;
+        stands = subst (λ (z : RequesterWithSink g.row.O.Denot g.row.C.Denot). Stands g.O.LinkSink.link g.O.Sink.taken g.O.Sink.faults g.C.CallRule.allows z (seen_by (pass_of c.args.turn.now))) (same_value _ r.value f r.has.1 e) r.stands;
         lies = r.lies;
         earlier = r.earlier;
       };
@@ -57,7 +57,7 @@ returns-in-None-clause-ready g c =
     record {
       value = f;
       has = (r.has.0, written _ _ f e, r.has.2);
-      stands = subst (λ (z : RequesterWithSink g.row.O.Denot g.row.C.Denot). Stands g.O.Sink.taken g.O.Sink.faults g.C.CallRule.allows z (seen_by (pass_of c.args.turn.now))) (same_value _ r.value f r.has.1 e) r.stands;
+      stands = subst (λ (z : RequesterWithSink g.row.O.Denot g.row.C.Denot). Stands g.O.LinkSink.link g.O.Sink.taken g.O.Sink.faults g.C.CallRule.allows z (seen_by (pass_of c.args.turn.now))) (same_value _ r.value f r.has.1 e) r.stands;
       lies = r.lies;
       earlier = r.earlier;
     }
@@ -70,7 +70,7 @@ returns-in-Some-clause-polled g c = λ k call asked o.
     (let r = c.requires.ready in let f = c.value-with_sink.result.now in let p = pass_of c.args.turn.now in let q = pass_of c.drain_under.new.turn in let seen = seen_by p in
     let xid = c.args.ticket in let d = c.drain_under.ensures.wrote in
     let w : Writes p q = record { es = d.es; are = d.are; seen = d.seen; adds = record { seen = d.adds.seen; places = d.adds.places; mine = d.adds.mine; rising = d.adds.rising; at = d.adds.at; new = d.adds.new } } in
-    let st : Stands g.O.Sink.taken g.O.Sink.faults g.C.CallRule.allows f seen = subst (λ (z : RequesterWithSink g.row.O.Denot g.row.C.Denot). Stands g.O.Sink.taken g.O.Sink.faults g.C.CallRule.allows z seen) (same_value _ r.value f r.has.1 c.value-with_sink.ensures.value) r.stands in
+    let st : Stands g.O.LinkSink.link g.O.Sink.taken g.O.Sink.faults g.C.CallRule.allows f seen = subst (λ (z : RequesterWithSink g.row.O.Denot g.row.C.Denot). Stands g.O.LinkSink.link g.O.Sink.taken g.O.Sink.faults g.C.CallRule.allows z seen) (same_value _ r.value f r.has.1 c.value-with_sink.ensures.value) r.stands in
     let still : IsCallAt (seen_by q) xid k call = asked_on seen (seen_by q) xid k call w.adds.seen asked in
     let opened : IsOpen closes_of (seen_by q) (mine_of q) k = open_writes p q k w o in
     let t = c.forget_under.ensures.forgotten k call still opened in
@@ -83,8 +83,8 @@ returns-in-Some-clause-polled g c = λ k call asked o.
       seen = c.forget_under.ensures.seen ∙ ap (λ n. seen_by q ++ entries.Forget xid (place_or_none n) ∷ []) (c.drain_under.ensures.ready.stands.calls xid k call still opened.1).0;
       ended = subst (λ (l : List Entry). LinkEnded c.in-Some.end l) (sym w.seen) (still_ended c.in-Some.end seen w.es st.initial st.is_initial w.are (c.in-Some.ensures.some seen st));
       unanswered = subst (λ (l : List Entry). IsUnanswered xid l) (sym w.seen) (still_unanswered xid seen w.es st.initial st.is_initial w.are
-          (none_has_come g.O.Sink.taken g.O.Sink.faults g.C.CallRule.allows f seen xid k call (sym c.has_outcome-there.ensures ∙ c.if-there.false) asked o.1 st));
-      written = turn_written g.O.Sink.taken g.O.Sink.faults g.C.CallRule.allows c.drain_under.new.turn c.drain_under.ensures.ready c.drain_under.ensures.flushed;
+          (none_has_come g.O.LinkSink.link g.O.Sink.taken g.O.Sink.faults g.C.CallRule.allows f seen xid k call (sym c.has_outcome-there.ensures ∙ c.if-there.false) asked o.1 st));
+      written = turn_written g.O.LinkSink.link g.O.Sink.taken g.O.Sink.faults g.C.CallRule.allows c.drain_under.new.turn c.drain_under.ensures.ready c.drain_under.ensures.flushed;
     })
 
 pub returns-in-Done-clause-polled : goal.returns-in-Done-clause-polled

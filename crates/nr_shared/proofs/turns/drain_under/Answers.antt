@@ -15,14 +15,19 @@ use Rattle.nr_shared.proofs.Asking.{none_closed, ready_on, ready_two}
 use Rattle.nr_shared.specs.private.Flushed.{IsFlushed}
 use Rattle.nr_shared.proofs.turns.drain_under.Goals as goal
 
+pub drain-drained-requires : goal.drain-drained-requires
+drain-drained-requires g c = let r = c.requires.ready in record {
+  stands = (seen_by (pass_of c.args.turn.now), subst (λ (z : RequesterWithSink g.row.O.Denot g.row.C.Denot). Stands g.O.LinkSink.link g.O.Sink.taken g.O.Sink.faults g.C.CallRule.allows z (seen_by (pass_of c.args.turn.now))) (same_value _ r.value c.value-with_sink.result.now r.has.1 c.value-with_sink.ensures.value) r.stands);
+}
+
 pub returns-in-Nothing-clause-ready : goal.returns-in-Nothing-clause-ready
 returns-in-Nothing-clause-ready g c =
     let r = c.requires.ready in let w = c.drain-drained.new.self in let f = c.value-with_sink.result.now in let seen = seen_by (pass_of c.args.turn.now) in
-    let st : Stands g.O.Sink.taken g.O.Sink.faults g.C.CallRule.allows f seen = subst (λ (z : RequesterWithSink g.row.O.Denot g.row.C.Denot). Stands g.O.Sink.taken g.O.Sink.faults g.C.CallRule.allows z seen) (same_value _ r.value f r.has.1 c.value-with_sink.ensures.value) r.stands in
+    let st : Stands g.O.LinkSink.link g.O.Sink.taken g.O.Sink.faults g.C.CallRule.allows f seen = subst (λ (z : RequesterWithSink g.row.O.Denot g.row.C.Denot). Stands g.O.LinkSink.link g.O.Sink.taken g.O.Sink.faults g.C.CallRule.allows z seen) (same_value _ r.value f r.has.1 c.value-with_sink.ensures.value) r.stands in
     record {
       value = w;
       has = (c.requires.ready.has.0, written _ _ c.drain-drained.new.self c.value-with_sink.ensures.value, c.requires.ready.has.2);
-      stands = subst (λ (h : List Entry). Stands g.O.Sink.taken g.O.Sink.faults g.C.CallRule.allows w h) (append-nil seen) (c.in-Nothing.ensures.drained seen st);
+      stands = subst (λ (h : List Entry). Stands g.O.LinkSink.link g.O.Sink.taken g.O.Sink.faults g.C.CallRule.allows w h) (append-nil seen) (c.in-Nothing.ensures.drained seen st);
       lies = r.lies;
       earlier = r.earlier;
     }
@@ -43,11 +48,11 @@ append_write_failed-requires-clause-value g c = (c.drain-drained.new.self, c.app
 pub returns-in-Wrote-clause-ready : goal.returns-in-Wrote-clause-ready
 returns-in-Wrote-clause-ready g c =
     let r = c.requires.ready in let w = c.drain-drained.new.self in let f = c.value-with_sink.result.now in let seen = seen_by (pass_of c.args.turn.now) in
-    let st : Stands g.O.Sink.taken g.O.Sink.faults g.C.CallRule.allows f seen = subst (λ (z : RequesterWithSink g.row.O.Denot g.row.C.Denot). Stands g.O.Sink.taken g.O.Sink.faults g.C.CallRule.allows z seen) (same_value _ r.value f r.has.1 c.value-with_sink.ensures.value) r.stands in
+    let st : Stands g.O.LinkSink.link g.O.Sink.taken g.O.Sink.faults g.C.CallRule.allows f seen = subst (λ (z : RequesterWithSink g.row.O.Denot g.row.C.Denot). Stands g.O.LinkSink.link g.O.Sink.taken g.O.Sink.faults g.C.CallRule.allows z seen) (same_value _ r.value f r.has.1 c.value-with_sink.ensures.value) r.stands in
     let e : Entry = entries.Wrote (taken_between c.value-with_sink.result.now.requester.state c.drain-drained.new.self.requester.state) in
     let same : entries.Wrote (taken_between c.of-before.result.value.state c.of-after.result.value.state) ≡ e =
     ap (λ (z : RequesterSide). entries.Wrote (taken_between z.state c.of-after.result.value.state)) c.of-before.ensures ∙ ap (λ (z : RequesterSide). entries.Wrote (taken_between c.value-with_sink.result.now.requester.state z.state)) c.of-after.ensures in
-    ready_on g.O.Sink.taken g.O.Sink.faults g.C.CallRule.allows c.args.turn.now c.append_wrote.new.turn w e r (c.append_wrote.ensures.held w (c.requires.ready.has.0, written _ _ c.drain-drained.new.self c.value-with_sink.ensures.value, c.requires.ready.has.2))
+    ready_on g.O.LinkSink.link g.O.Sink.taken g.O.Sink.faults g.C.CallRule.allows c.args.turn.now c.append_wrote.new.turn w e r (c.append_wrote.ensures.held w (c.requires.ready.has.0, written _ _ c.drain-drained.new.self c.value-with_sink.ensures.value, c.requires.ready.has.2))
     (subst (λ (e : Entry). Steps (pass_of c.args.turn.now) (pass_of c.append_wrote.new.turn) e) same c.append_wrote.ensures.step)
     (λ k is. absurd (none_closed k is)) (c.in-Wrote.ensures.drained seen st)
 
@@ -63,11 +68,11 @@ returns-in-Wrote-clause-wrote g c =
 pub returns-clause-ready : goal.returns-clause-ready
 returns-clause-ready g c =
     let r = c.requires.ready in let w = c.drain-drained.new.self in let f = c.value-with_sink.result.now in let seen = seen_by (pass_of c.args.turn.now) in
-    let st : Stands g.O.Sink.taken g.O.Sink.faults g.C.CallRule.allows f seen = subst (λ (z : RequesterWithSink g.row.O.Denot g.row.C.Denot). Stands g.O.Sink.taken g.O.Sink.faults g.C.CallRule.allows z seen) (same_value _ r.value f r.has.1 c.value-with_sink.ensures.value) r.stands in
+    let st : Stands g.O.LinkSink.link g.O.Sink.taken g.O.Sink.faults g.C.CallRule.allows f seen = subst (λ (z : RequesterWithSink g.row.O.Denot g.row.C.Denot). Stands g.O.LinkSink.link g.O.Sink.taken g.O.Sink.faults g.C.CallRule.allows z seen) (same_value _ r.value f r.has.1 c.value-with_sink.ensures.value) r.stands in
     let e : Entry = entries.Wrote (taken_between c.value-with_sink.result.now.requester.state c.drain-drained.new.self.requester.state) in
     let same : entries.Wrote (taken_between c.of-before.result.value.state c.of-after.result.value.state) ≡ e =
     ap (λ (z : RequesterSide). entries.Wrote (taken_between z.state c.of-after.result.value.state)) c.of-before.ensures ∙ ap (λ (z : RequesterSide). entries.Wrote (taken_between c.value-with_sink.result.now.requester.state z.state)) c.of-after.ensures in
-    ready_two g.O.Sink.taken g.O.Sink.faults g.C.CallRule.allows c.args.turn.now c.append_wrote-in-WriteFailed.new.turn c.append_write_failed.new.turn w e entries.WriteFailed r (c.append_write_failed.ensures.held w (c.append_wrote-in-WriteFailed.ensures.held w (c.requires.ready.has.0, written _ _ c.drain-drained.new.self c.value-with_sink.ensures.value, c.requires.ready.has.2)))
+    ready_two g.O.LinkSink.link g.O.Sink.taken g.O.Sink.faults g.C.CallRule.allows c.args.turn.now c.append_wrote-in-WriteFailed.new.turn c.append_write_failed.new.turn w e entries.WriteFailed r (c.append_write_failed.ensures.held w (c.append_wrote-in-WriteFailed.ensures.held w (c.requires.ready.has.0, written _ _ c.drain-drained.new.self c.value-with_sink.ensures.value, c.requires.ready.has.2)))
     (subst (λ (e : Entry). Steps (pass_of c.args.turn.now) (pass_of c.append_wrote-in-WriteFailed.new.turn) e) same c.append_wrote-in-WriteFailed.ensures.step) c.append_write_failed.ensures.step refl refl (c.in-WriteFailed.ensures.drained seen st)
 
 pub returns-clause-wrote : goal.returns-clause-wrote

@@ -20,10 +20,10 @@ append_submit-requires-clause-value g c = let r = c.requires.ready in (c.submit.
 pub returns-in-Ok-clause-ready : goal.returns-in-Ok-clause-ready
 returns-in-Ok-clause-ready g c =
     let r = c.requires.ready in let w = c.submit.new.self in let f = c.value-with_sink.result.now in let seen = seen_by (pass_of c.args.turn.now) in
-    let st : Stands g.O.Sink.taken g.O.Sink.faults g.C.CallRule.allows f seen = subst (λ (z : RequesterWithSink g.row.O.Denot g.row.C.Denot). Stands g.O.Sink.taken g.O.Sink.faults g.C.CallRule.allows z seen) (same_value _ r.value f r.has.1 c.value-with_sink.ensures.value) r.stands in
+    let st : Stands g.O.LinkSink.link g.O.Sink.taken g.O.Sink.faults g.C.CallRule.allows f seen = subst (λ (z : RequesterWithSink g.row.O.Denot g.row.C.Denot). Stands g.O.LinkSink.link g.O.Sink.taken g.O.Sink.faults g.C.CallRule.allows z seen) (same_value _ r.value f r.has.1 c.value-with_sink.ensures.value) r.stands in
     let same : entries.Submit c.of-asked.result.value c.of-asked_in.result.value c.in-Ok.ticket ≡ entries.Submit c.args.call c.args.form c.in-Ok.ticket =
     ap (λ (z : Call). entries.Submit z c.of-asked_in.result.value c.in-Ok.ticket) c.of-asked.ensures ∙ ap (λ (z : Form). entries.Submit c.args.call z c.in-Ok.ticket) c.of-asked_in.ensures in
-    ready_on g.O.Sink.taken g.O.Sink.faults g.C.CallRule.allows c.args.turn.now c.append_submit.new.turn w (entries.Submit c.args.call c.args.form c.in-Ok.ticket) r
+    ready_on g.O.LinkSink.link g.O.Sink.taken g.O.Sink.faults g.C.CallRule.allows c.args.turn.now c.append_submit.new.turn w (entries.Submit c.args.call c.args.form c.in-Ok.ticket) r
     (c.append_submit.ensures.held w (r.has.0, written _ _ w c.value-with_sink.ensures.value, r.has.2))
     (subst (λ (e : Entry). Steps (pass_of c.args.turn.now) (pass_of c.append_submit.new.turn) e) same c.append_submit.ensures.step)
     (λ k is. absurd (none_closed k is))
@@ -40,11 +40,11 @@ returns-in-Ok-clause-accepted g c =
 pub returns-clause-ready : goal.returns-clause-ready
 returns-clause-ready g c =
     let r = c.requires.ready in let w = c.submit.new.self in let f = c.value-with_sink.result.now in let seen = seen_by (pass_of c.args.turn.now) in
-    let st : Stands g.O.Sink.taken g.O.Sink.faults g.C.CallRule.allows f seen = subst (λ (z : RequesterWithSink g.row.O.Denot g.row.C.Denot). Stands g.O.Sink.taken g.O.Sink.faults g.C.CallRule.allows z seen) (same_value _ r.value f r.has.1 c.value-with_sink.ensures.value) r.stands in
+    let st : Stands g.O.LinkSink.link g.O.Sink.taken g.O.Sink.faults g.C.CallRule.allows f seen = subst (λ (z : RequesterWithSink g.row.O.Denot g.row.C.Denot). Stands g.O.LinkSink.link g.O.Sink.taken g.O.Sink.faults g.C.CallRule.allows z seen) (same_value _ r.value f r.has.1 c.value-with_sink.ensures.value) r.stands in
     record {
       value = w;
       has = (r.has.0, written _ _ w c.value-with_sink.ensures.value, r.has.2);
-      stands = subst (λ (z : RequesterWithSink g.row.O.Denot g.row.C.Denot). Stands g.O.Sink.taken g.O.Sink.faults g.C.CallRule.allows z seen) (sym c.in-Err.ensures.err) st;
+      stands = subst (λ (z : RequesterWithSink g.row.O.Denot g.row.C.Denot). Stands g.O.LinkSink.link g.O.Sink.taken g.O.Sink.faults g.C.CallRule.allows z seen) (sym c.in-Err.ensures.err) st;
       lies = r.lies;
       earlier = r.earlier;
     }
@@ -58,8 +58,8 @@ returns-in-Ok-clause-seen g c =
 pub returns-clause-why : goal.returns-clause-why
 returns-clause-why g c =
     let r = c.requires.ready in let f = c.value-with_sink.result.now in let seen = seen_by (pass_of c.args.turn.now) in
-    let st : Stands g.O.Sink.taken g.O.Sink.faults g.C.CallRule.allows f seen = subst (λ (z : RequesterWithSink g.row.O.Denot g.row.C.Denot). Stands g.O.Sink.taken g.O.Sink.faults g.C.CallRule.allows z seen) (same_value _ r.value f r.has.1 c.value-with_sink.ensures.value) r.stands in
-    refused_is g.O.Sink.taken g.O.Sink.faults g.C.CallRule.allows f seen c.args.call c.args.form c.in-Err.refused.1 st c.in-Err.ensures.refused
+    let st : Stands g.O.LinkSink.link g.O.Sink.taken g.O.Sink.faults g.C.CallRule.allows f seen = subst (λ (z : RequesterWithSink g.row.O.Denot g.row.C.Denot). Stands g.O.LinkSink.link g.O.Sink.taken g.O.Sink.faults g.C.CallRule.allows z seen) (same_value _ r.value f r.has.1 c.value-with_sink.ensures.value) r.stands in
+    refused_is g.O.LinkSink.link g.O.Sink.taken g.O.Sink.faults g.C.CallRule.allows f seen c.args.call c.args.form c.in-Err.refused.1 st c.in-Err.ensures.refused
 
 pub returns-clause-credit : goal.returns-clause-credit
 returns-clause-credit g c = λ leaves.

@@ -10,5 +10,5 @@ forget-requires g c = let (history, k, call, (st, (asked, unclosed))) = c.requir
 pub returns : goal.returns
 returns g c = let t = c.forget.ensures in record {
   forgotten = λ history k call st asked unclosed.
-      forgets g.O.Sink.taken g.O.Sink.faults g.C.CallRule.allows c.args.self.now _ c.args.ticket k call history refl refl refl refl refl t.state t.stands t.out t.tickets asked unclosed st;
+      forgets g.O.LinkSink.link g.O.Sink.taken g.O.Sink.faults g.C.CallRule.allows c.args.self.now _ c.args.ticket k call history (record { sink = refl; tries = refl; rejoined = refl; failed = refl; stopped = refl }) refl refl t.state t.keeps t.stops t.tickets asked unclosed st;
 }

@@ -11,7 +11,7 @@ revoke-given-requires g c = let (history, k, call, (st, (asked, unclosed))) = c.
 pub returns : goal.returns
 returns g c = let t = c.revoke-given.ensures in record {
   revoked = λ history k call st asked unclosed. (
-    revokes g.O.Sink.taken g.O.Sink.faults g.C.CallRule.allows c.args.self.now _ c.args.ticket k call _ history refl refl refl refl refl (ap bytes_of_buffers t.buffers) t.state t.stands t.out t.tickets t.fed asked unclosed st,
+    revokes g.O.LinkSink.link g.O.Sink.taken g.O.Sink.faults g.C.CallRule.allows c.args.self.now _ c.args.ticket k call _ history (record { sink = refl; tries = refl; rejoined = refl; failed = refl; stopped = refl }) refl refl (ap bytes_of_buffers t.buffers) t.state t.keeps t.stops t.tickets t.fed asked unclosed st,
     ap (λ (o : Option Call). unwrap_or o call) (sym t.call ∙ (st.calls c.args.ticket k call asked unclosed).1),
   );
 }

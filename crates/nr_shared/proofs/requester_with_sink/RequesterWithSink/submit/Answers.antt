@@ -4,4 +4,4 @@ use Rattle.nr_shared.proofs.requester_with_sink.RequesterWithSink.submit.Goals a
 
 pub returns-in-Ok-clause-accepted : goal.returns-in-Ok-clause-accepted
 returns-in-Ok-clause-accepted g c = let s = c.in-Ok.ensures in
-    submits g.O.Sink.taken g.O.Sink.faults g.C.CallRule.allows c.args.self.now _ c.args.call c.args.form c.in-Ok.ticket refl refl refl refl refl c.requires.writable s.accepted s.sent s.stands s.tickets s.fed c.requires.allowed
+    submits g.O.LinkSink.link g.O.Sink.taken g.O.Sink.faults g.C.CallRule.allows c.args.self.now _ c.args.call c.args.form c.in-Ok.ticket (record { sink = refl; tries = refl; rejoined = refl; failed = refl; stopped = refl }) refl refl c.requires.writable s.accepted s.sent s.keeps s.tickets s.fed c.requires.allowed

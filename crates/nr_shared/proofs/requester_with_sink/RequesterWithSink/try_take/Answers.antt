@@ -12,28 +12,28 @@ try_take-requires g c = let (history, k, call, (st, (asked, unclosed))) = c.requ
 
 pub returns-in-NotYet-clause-taken : goal.returns-in-NotYet-clause-taken
 returns-in-NotYet-clause-taken g c = let t = c.in-NotYet.ensures.taken in λ history k call st asked unclosed. (
-  stands_same g.O.Sink.taken g.O.Sink.faults g.C.CallRule.allows c.args.self.now _ history refl refl refl refl refl t.1.1.1 refl st,
-  (t.0, still_awaited g.O.Sink.taken g.O.Sink.faults g.C.CallRule.allows c.args.self.now history c.args.ticket k call t.1.0 t.1.1.0 asked unclosed st),
+  stands_same g.O.LinkSink.link g.O.Sink.taken g.O.Sink.faults g.C.CallRule.allows c.args.self.now _ history (record { sink = refl; tries = refl; rejoined = refl; failed = refl; stopped = refl }) refl refl t.1.1.1 refl st,
+  (t.0, still_awaited g.O.LinkSink.link g.O.Sink.taken g.O.Sink.faults g.C.CallRule.allows c.args.self.now history c.args.ticket k call t.1.0 t.1.1.0 asked unclosed st),
 )
 
 pub returns-in-Done-clause-taken : goal.returns-in-Done-clause-taken
 returns-in-Done-clause-taken g c = let t = c.in-Done.ensures in λ history k call st asked unclosed. (
-  hands_over g.O.Sink.taken g.O.Sink.faults g.C.CallRule.allows c.args.self.now _ c.args.ticket k call _ history refl refl refl refl refl t.taken.0 t.taken.1.1 t.stands.0 t.stands.1 t.tickets asked unclosed st,
+  hands_over g.O.LinkSink.link g.O.Sink.taken g.O.Sink.faults g.C.CallRule.allows c.args.self.now _ c.args.ticket k call _ history (record { sink = refl; tries = refl; rejoined = refl; failed = refl; stopped = refl }) refl refl t.taken.0 t.taken.1.1 t.keeps t.stops t.tickets asked unclosed st,
   (
     ap (λ (o : Option Call). unwrap_or o call) (sym t.taken.1.0 ∙ (st.calls c.args.ticket k call asked unclosed).1),
-    have_placed g.O.Sink.taken g.O.Sink.faults g.C.CallRule.allows c.args.self.now history c.args.ticket _ t.taken.0 st,
+    have_placed g.O.LinkSink.link g.O.Sink.taken g.O.Sink.faults g.C.CallRule.allows c.args.self.now history c.args.ticket _ t.taken.0 st,
   ),
 )
 
 pub returns-in-Failed-clause-taken : goal.returns-in-Failed-clause-taken
 returns-in-Failed-clause-taken g c = let t = c.in-Failed.ensures in λ history k call st asked unclosed. (
-  loses g.O.Sink.taken g.O.Sink.faults g.C.CallRule.allows c.args.self.now _ c.args.ticket k call c.in-Failed.buffers c.in-Failed.end history
-      (record { sink = refl; count = refl; pending = refl; sink_failed = refl; stopped = refl; none = t.taken.0; are = t.taken.1.1.1.0; after = t.taken.1.1.1.1; on = t.stands.0; stops = t.stands.1; shuts = t.tickets; fed = t.fed }) t.taken.1.0 asked unclosed st,
+  loses g.O.LinkSink.link g.O.Sink.taken g.O.Sink.faults g.C.CallRule.allows c.args.self.now _ c.args.ticket k call c.in-Failed.buffers c.in-Failed.end history
+      (record { same = record { sink = refl; tries = refl; rejoined = refl; failed = refl; stopped = refl }; count = refl; pending = refl; none = t.taken.0; are = t.taken.1.1.1.0; after = t.taken.1.1.1.1; on = t.keeps; stops = t.stops; shuts = t.tickets; fed = t.fed }) t.taken.1.0 asked unclosed st,
   (
     ap (λ (o : Option Call). unwrap_or o call) (sym t.taken.1.1.0 ∙ (st.calls c.args.ticket k call asked unclosed).1),
     (
-      ended_is g.O.Sink.taken g.O.Sink.faults g.C.CallRule.allows c.args.self.now history c.in-Failed.end st t.taken.1.0,
-      lost_with g.O.Sink.taken g.O.Sink.faults g.C.CallRule.allows c.args.self.now history c.args.ticket k call c.in-Failed.buffers t.taken.0 t.taken.1.1.1.0 asked unclosed st,
+      ended_is g.O.LinkSink.link g.O.Sink.taken g.O.Sink.faults g.C.CallRule.allows c.args.self.now history c.in-Failed.end st t.taken.1.0,
+      lost_with g.O.LinkSink.link g.O.Sink.taken g.O.Sink.faults g.C.CallRule.allows c.args.self.now history c.args.ticket k call c.in-Failed.buffers t.taken.0 t.taken.1.1.1.0 asked unclosed st,
     ),
   ),
 )

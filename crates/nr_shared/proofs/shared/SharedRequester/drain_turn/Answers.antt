@@ -25,12 +25,12 @@ returns-clause-wrote g c = let t = c.take_turn-turn.ensures.got.1 in
     (record {
       writes = w.es;
       are_writes = w.are;
-      adds = adds_same p u s w.es (adds_both p q u [] w.es (got (Stands g.O.Sink.taken g.O.Sink.faults g.C.CallRule.allows) closes_of c.take_turn-turn.result.turnstile.now p q t) w.adds) c.put_back.ensures.1 c.put_back.ensures.2;
-      keeps = λ k o. keeps_same u s c.put_back.ensures.1 c.put_back.ensures.2 k (open_writes q u k w (keeps_got g.O.Sink.taken g.O.Sink.faults g.C.CallRule.allows c.take_turn-turn.result.turnstile.now p q c.requires.lies t k o));
-      written = subst HasWrittenOutput (sym c.put_back.ensures.1) (turn_written g.O.Sink.taken g.O.Sink.faults g.C.CallRule.allows c.drain_under.new.turn c.drain_under.ensures.ready c.drain_under.ensures.flushed);
+      adds = adds_same p u s w.es (adds_both p q u [] w.es (got (Stands g.O.LinkSink.link g.O.Sink.taken g.O.Sink.faults g.C.CallRule.allows) closes_of c.take_turn-turn.result.turnstile.now p q t) w.adds) c.put_back.ensures.1 c.put_back.ensures.2;
+      keeps = λ k o. keeps_same u s c.put_back.ensures.1 c.put_back.ensures.2 k (open_writes q u k w (keeps_got g.O.LinkSink.link g.O.Sink.taken g.O.Sink.faults g.C.CallRule.allows c.take_turn-turn.result.turnstile.now p q c.requires.lies t k o));
+      written = subst HasWrittenOutput (sym c.put_back.ensures.1) (turn_written g.O.LinkSink.link g.O.Sink.taken g.O.Sink.faults g.C.CallRule.allows c.drain_under.new.turn c.drain_under.ensures.ready c.drain_under.ensures.flushed);
     })
 
 pub returns-clause-law : goal.returns-clause-law
 returns-clause-law g c =
     subst (λ (z : Pass (RequesterWithSink g.row.O.Denot g.row.C.Denot) Entry). KeepsLaw (seen_by z)) (sym (c.main-1.given.1 (sym (c.drain_under.ensures.same.1 ∙ c.take_turn-turn.ensures.borrow))))
-    (law_put_back g.O.Sink.taken g.O.Sink.faults g.C.CallRule.allows c.drain_under.new.turn c.put_back.new.self.1.0 c.drain_under.ensures.ready c.put_back.ensures.1)
+    (law_put_back g.O.LinkSink.link g.O.Sink.taken g.O.Sink.faults g.C.CallRule.allows c.drain_under.new.turn c.put_back.new.self.1.0 c.drain_under.ensures.ready c.put_back.ensures.1)

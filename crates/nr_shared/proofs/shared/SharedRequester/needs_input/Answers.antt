@@ -1,4 +1,4 @@
-use Rattle.std.proofs.Common.{◌≡◌, List, None, sym, ap, subst, ◌∙◌}
+use Rattle.std.proofs.Common.{rules, List, sym, ap, subst, ◌∙◌}
 use Rattle.nr_turnstile.specs.declared.turnstile.Pass.{Pass}
 use Rattle.nr_turnstile.specs.Rule.{Lies}
 use Rattle.nr_turnstile.specs.Passes.{mine_of, seen_by}
@@ -6,60 +6,45 @@ use Rattle.nr_turnstile.specs.Turns.{pass_of}
 use Rattle.nr_shared.specs.declared.entry.Entry.{Entry}
 use Rattle.nr_shared.specs.declared.requester_with_sink.RequesterWithSink.{RequesterWithSink}
 use Rattle.nr_shared.specs.Callers.{IsFeeding}
-use Rattle.nr_shared.specs.Histories.{bytes_fed, stop_of}
-use Rattle.nr_shared.specs.Output.{IsCallOutstanding}
+use Rattle.nr_shared.specs.Histories.{tries_in}
+use Rattle.nr_shared.specs.Output.{MayFeed}
 use Rattle.nr_shared.proofs.Alone.{alone, alone_writes}
 use Rattle.nr_shared.proofs.Asking.{feeding_same}
-use Rattle.nr_shared.proofs.FeedsOn.{lies_same}
+use Rattle.nr_shared.proofs.FeedsOn.{Reads, either_way, hangs_up, lies_same, of_feeds, reads_after, reads_turned, to_feeds}
 use Rattle.nr_shared.proofs.shared.SharedRequester.needs_input.Goals as goal
 
-pub returns-clause-feeding : goal.returns-clause-feeding
-returns-clause-feeding g c =
-    let t = c.take_turn-turn.ensures.got.1 in let q = pass_of c.take_turn-turn.result in let d = pass_of c.drain_under.new.turn in let u = pass_of c.needs_input_under-needs_input.new.turn in let s = c.put_back.new.self.1.0 in
-    let al = alone g.O.Sink.taken g.O.Sink.faults g.C.CallRule.allows c.take_turn-turn.result.turnstile.now c.args.feeding.now q t.0 c.requires.lies t t.2 c.requires.feeding in
-    let be = alone_writes q d c.drain_under.ensures.wrote t.7 al.feeding in
-    let seen : seen_by s ≡ seen_by d = c.put_back.ensures.1 ∙ c.needs_input_under-needs_input.ensures.seen in
-    subst (λ (z : Pass (RequesterWithSink g.row.O.Denot g.row.C.Denot) Entry). IsFeeding {O = g.row.O.Denot} z) (sym (c.feeding-1.given.1 (sym (c.needs_input_under-needs_input.ensures.same.1 ∙ (c.drain_under.ensures.same.1 ∙ c.take_turn-turn.ensures.borrow)))))
-    (feeding_same d s seen (c.put_back.ensures.2 ∙ c.needs_input_under-needs_input.ensures.mine) be.feeding)
+pub input_or_link_under-needs_input-requires-clause-feeding : goal.input_or_link_under-needs_input-requires-clause-feeding
+input_or_link_under-needs_input-requires-clause-feeding g c = let (b, (f, home)) = c.requires in let t = c.take_turn-turn.ensures.got.1 in
+    let al = alone g.O.LinkSink.link g.O.Sink.taken g.O.Sink.faults g.C.CallRule.allows c.take_turn-turn.result.turnstile.now c.args.reader.now.pass (pass_of c.take_turn-turn.result) t.0 f.lies t t.2 f.feeding in
+    (alone_writes (pass_of c.take_turn-turn.result) (pass_of c.drain_under.new.turn) c.drain_under.ensures.wrote t.7 al.feeding).feeding
 
-pub returns-clause-lies : goal.returns-clause-lies
-returns-clause-lies g c =
-    let t = c.take_turn-turn.ensures.got.1 in let q = pass_of c.take_turn-turn.result in let d = pass_of c.drain_under.new.turn in let u = pass_of c.needs_input_under-needs_input.new.turn in let s = c.put_back.new.self.1.0 in
-    let al = alone g.O.Sink.taken g.O.Sink.faults g.C.CallRule.allows c.take_turn-turn.result.turnstile.now c.args.feeding.now q t.0 c.requires.lies t t.2 c.requires.feeding in
-    let be = alone_writes q d c.drain_under.ensures.wrote t.7 al.feeding in
-    let seen : seen_by s ≡ seen_by d = c.put_back.ensures.1 ∙ c.needs_input_under-needs_input.ensures.seen in
-    subst (λ (z : Pass (RequesterWithSink g.row.O.Denot g.row.C.Denot) Entry). Lies (seen_by z) (mine_of z)) (sym (c.feeding-1.given.1 (sym (c.needs_input_under-needs_input.ensures.same.1 ∙ (c.drain_under.ensures.same.1 ∙ c.take_turn-turn.ensures.borrow)))))
-    (lies_same u s c.put_back.ensures.1 c.put_back.ensures.2 c.needs_input_under-needs_input.ensures.ready.lies)
+pub input_or_link_under-needs_input-requires-clause-link : goal.input_or_link_under-needs_input-requires-clause-link
+input_or_link_under-needs_input-requires-clause-link g c = let (b, (f, home)) = c.requires in let t = c.take_turn-turn.ensures.got.1 in let s = c.args.reader.now in let d = pass_of c.drain_under.new.turn in
+    let al = alone g.O.LinkSink.link g.O.Sink.taken g.O.Sink.faults g.C.CallRule.allows c.take_turn-turn.result.turnstile.now s.pass (pass_of c.take_turn-turn.result) t.0 f.lies t t.2 f.feeding in
+    let be = alone_writes (pass_of c.take_turn-turn.result) d c.drain_under.ensures.wrote t.7 al.feeding in
+    hangs_up g.I.LinkSource.link g.I.Source.left g.I.Source.given g.I.Source.faults g.O.LinkSink.link g.O.Sink.taken g.O.Sink.faults g.D.Dialer.asked g.D.Dialer.ended g.D.Dialer.faults b s.source s.dialer s.read (seen_by d)
+    (reads_turned g.I.LinkSource.link g.I.Source.left g.I.Source.given g.I.Source.faults g.D.Dialer.ended g.D.Dialer.faults b s.source s.dialer s.read (seen_by s.pass) (seen_by d)
+    (of_feeds g.I.LinkSource.link g.I.Source.left g.I.Source.given g.I.Source.faults g.D.Dialer.ended g.D.Dialer.faults b s f) (ap tries_in (be.initial_is ∙ al.initial_is)) (be.bytes ∙ al.bytes) (be.part ∙ al.part))
 
-pub returns-clause-fed : goal.returns-clause-fed
-returns-clause-fed g c =
-    let t = c.take_turn-turn.ensures.got.1 in let q = pass_of c.take_turn-turn.result in let d = pass_of c.drain_under.new.turn in let u = pass_of c.needs_input_under-needs_input.new.turn in let s = c.put_back.new.self.1.0 in
-    let al = alone g.O.Sink.taken g.O.Sink.faults g.C.CallRule.allows c.take_turn-turn.result.turnstile.now c.args.feeding.now q t.0 c.requires.lies t t.2 c.requires.feeding in
-    let be = alone_writes q d c.drain_under.ensures.wrote t.7 al.feeding in
-    let seen : seen_by s ≡ seen_by d = c.put_back.ensures.1 ∙ c.needs_input_under-needs_input.ensures.seen in
-    subst (λ (z : Pass (RequesterWithSink g.row.O.Denot g.row.C.Denot) Entry). bytes_fed (seen_by z) ≡ bytes_fed (seen_by c.args.feeding.now)) (sym (c.feeding-1.given.1 (sym (c.needs_input_under-needs_input.ensures.same.1 ∙ (c.drain_under.ensures.same.1 ∙ c.take_turn-turn.ensures.borrow)))))
-    (ap (λ (l : List Entry). bytes_fed l) seen ∙ (be.bytes ∙ al.bytes))
-
-pub returns-clause-stop : goal.returns-clause-stop
-returns-clause-stop g c =
-    let t = c.take_turn-turn.ensures.got.1 in let q = pass_of c.take_turn-turn.result in let d = pass_of c.drain_under.new.turn in let u = pass_of c.needs_input_under-needs_input.new.turn in let s = c.put_back.new.self.1.0 in
-    let al = alone g.O.Sink.taken g.O.Sink.faults g.C.CallRule.allows c.take_turn-turn.result.turnstile.now c.args.feeding.now q t.0 c.requires.lies t t.2 c.requires.feeding in
-    let be = alone_writes q d c.drain_under.ensures.wrote t.7 al.feeding in
-    let seen : seen_by s ≡ seen_by d = c.put_back.ensures.1 ∙ c.needs_input_under-needs_input.ensures.seen in
-    subst (λ (z : Pass (RequesterWithSink g.row.O.Denot g.row.C.Denot) Entry). stop_of (seen_by z) ≡ stop_of (seen_by c.args.feeding.now)) (sym (c.feeding-1.given.1 (sym (c.needs_input_under-needs_input.ensures.same.1 ∙ (c.drain_under.ensures.same.1 ∙ c.take_turn-turn.ensures.borrow)))))
-    (ap (λ (l : List Entry). stop_of l) seen ∙ (be.stop ∙ al.stop))
+pub returns-clause-reads : goal.returns-clause-reads
+returns-clause-reads g c = λ b f home. (
+    let t = c.take_turn-turn.ensures.got.1 in let s = c.args.reader.now in let d = pass_of c.drain_under.new.turn in let i = c.input_or_link_under-needs_input in let u = pass_of i.new.turn in let z = c.put_back.new.self.1.0 in
+    let al = alone g.O.LinkSink.link g.O.Sink.taken g.O.Sink.faults g.C.CallRule.allows c.take_turn-turn.result.turnstile.now s.pass (pass_of c.take_turn-turn.result) t.0 f.lies t t.2 f.feeding in
+    let be = alone_writes (pass_of c.take_turn-turn.result) d c.drain_under.ensures.wrote t.7 al.feeding in
+    let same = c.reader-1.given.1 (sym (i.ensures.same.1 ∙ (c.drain_under.ensures.same.1 ∙ c.take_turn-turn.ensures.borrow))) in
+    let drained = reads_turned g.I.LinkSource.link g.I.Source.left g.I.Source.given g.I.Source.faults g.D.Dialer.ended g.D.Dialer.faults b s.source s.dialer s.read (seen_by s.pass) (seen_by d)
+    (of_feeds g.I.LinkSource.link g.I.Source.left g.I.Source.given g.I.Source.faults g.D.Dialer.ended g.D.Dialer.faults b s f) (ap tries_in (be.initial_is ∙ al.initial_is)) (be.bytes ∙ al.bytes) (be.part ∙ al.part) in
+    let after = reads_after g.I.LinkSource.link g.I.Source.left g.I.Source.given g.I.Source.faults g.O.LinkSink.link g.O.Sink.taken g.O.Sink.faults g.D.Dialer.asked g.D.Dialer.ended g.D.Dialer.faults b s.source i.new.source s.dialer i.new.dialer s.read (seen_by d) (seen_by u) _
+    be.feeding.initial be.feeding.is_initial drained (either_way i.result (λ is. (i.ensures.input is).0) i.ensures.other) in
+    to_feeds g.I.LinkSource.link g.I.Source.left g.I.Source.given g.I.Source.faults g.D.Dialer.ended g.D.Dialer.faults b _
+    (search rules) (search rules)
+    (subst (λ (p : Pass (RequesterWithSink g.row.O.Denot g.row.C.Denot) Entry). Lies (seen_by p) (mine_of p)) (sym same) (lies_same u z c.put_back.ensures.1 c.put_back.ensures.2 i.ensures.ready.lies))
+    (subst (λ (p : Pass (RequesterWithSink g.row.O.Denot g.row.C.Denot) Entry). IsFeeding {O = g.row.O.Denot} p) (sym same) (feeding_same u z c.put_back.ensures.1 c.put_back.ensures.2 i.ensures.feeding))
+    f.room
+    (subst (λ (p : Pass (RequesterWithSink g.row.O.Denot g.row.C.Denot) Entry). Reads g.I.LinkSource.link g.I.Source.left g.I.Source.given g.I.Source.faults g.D.Dialer.ended g.D.Dialer.faults b i.new.source i.new.dialer s.read (seen_by p)) (sym same)
+    (subst (λ (l : List Entry). Reads g.I.LinkSource.link g.I.Source.left g.I.Source.given g.I.Source.faults g.D.Dialer.ended g.D.Dialer.faults b i.new.source i.new.dialer s.read l) (sym c.put_back.ensures.1) after)))
 
 pub returns-clause-needs_input : goal.returns-clause-needs_input
-returns-clause-needs_input g c = λ is.
-    (let t = c.take_turn-turn.ensures.got.1 in let q = pass_of c.take_turn-turn.result in let d = pass_of c.drain_under.new.turn in let u = pass_of c.needs_input_under-needs_input.new.turn in let s = c.put_back.new.self.1.0 in
-    let al = alone g.O.Sink.taken g.O.Sink.faults g.C.CallRule.allows c.take_turn-turn.result.turnstile.now c.args.feeding.now q t.0 c.requires.lies t t.2 c.requires.feeding in
-    let be = alone_writes q d c.drain_under.ensures.wrote t.7 al.feeding in
-    let seen : seen_by s ≡ seen_by d = c.put_back.ensures.1 ∙ c.needs_input_under-needs_input.ensures.seen in
-    subst (λ (z : Pass (RequesterWithSink g.row.O.Denot g.row.C.Denot) Entry). stop_of (seen_by z) ≡ None) (sym (c.feeding-1.given.1 (sym (c.needs_input_under-needs_input.ensures.same.1 ∙ (c.drain_under.ensures.same.1 ∙ c.take_turn-turn.ensures.borrow)))))
-    (ap (λ (l : List Entry). stop_of l) seen ∙ c.needs_input_under-needs_input.ensures.needs_input is))
-
-pub returns-clause-outstanding : goal.returns-clause-outstanding
-returns-clause-outstanding g c = λ is.
-    (let seen : seen_by c.put_back.new.self.1.0 ≡ seen_by (pass_of c.drain_under.new.turn) = c.put_back.ensures.1 ∙ c.needs_input_under-needs_input.ensures.seen in
-    subst (λ (z : Pass (RequesterWithSink g.row.O.Denot g.row.C.Denot) Entry). IsCallOutstanding (seen_by z)) (sym (c.feeding-1.given.1 (sym (c.needs_input_under-needs_input.ensures.same.1 ∙ (c.drain_under.ensures.same.1 ∙ c.take_turn-turn.ensures.borrow)))))
-    (subst IsCallOutstanding (sym seen) (c.needs_input_under-needs_input.ensures.outstanding is)))
+returns-clause-needs_input g c = λ is. (let i = c.input_or_link_under-needs_input in
+    subst (λ (p : Pass (RequesterWithSink g.row.O.Denot g.row.C.Denot) Entry). MayFeed (seen_by p)) (sym (c.reader-1.given.1 (sym (i.ensures.same.1 ∙ (c.drain_under.ensures.same.1 ∙ c.take_turn-turn.ensures.borrow)))))
+    (subst (λ (l : List Entry). MayFeed l) (sym c.put_back.ensures.1) (i.ensures.input is).1))

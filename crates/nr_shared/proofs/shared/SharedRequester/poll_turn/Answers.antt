@@ -16,15 +16,15 @@ use Rattle.nr_shared.proofs.shared.SharedRequester.poll_turn.Goals as goal
 
 pub poll_under-found-requires-clause-has_call : goal.poll_under-found-requires-clause-has_call
 poll_under-found-requires-clause-has_call g c = let t = c.take_turn-turn.ensures.got.1 in
-    open_call_got g.O.Sink.taken g.O.Sink.faults g.C.CallRule.allows c.take_turn-turn.result.turnstile.now c.args.main.now (pass_of c.take_turn-turn.result) c.args.ticket t c.requires.has_call
+    open_call_got g.O.LinkSink.link g.O.Sink.taken g.O.Sink.faults g.C.CallRule.allows c.take_turn-turn.result.turnstile.now c.args.main.now (pass_of c.take_turn-turn.result) c.args.ticket t c.requires.has_call
 
 pub returns-clause-polled : goal.returns-clause-polled
 returns-clause-polled g c = let t = c.take_turn-turn.ensures.got.1 in
     subst (λ (z : Pass (RequesterWithSink g.row.O.Denot g.row.C.Denot) Entry). IsPollTurn c.args.main.now z c.args.ticket c.poll_under-found.result) (sym (c.main-1.given.1 (sym (c.poll_under-found.ensures.same.1 ∙ c.take_turn-turn.ensures.borrow))))
-    (polls_after c.args.main.now (pass_of c.take_turn-turn.result) (pass_of c.poll_under-found.new.turn) c.put_back.new.self.1.0 c.args.ticket c.poll_under-found.result (got (Stands g.O.Sink.taken g.O.Sink.faults g.C.CallRule.allows) closes_of c.take_turn-turn.result.turnstile.now c.args.main.now (pass_of c.take_turn-turn.result) t)
-    (keeps_got g.O.Sink.taken g.O.Sink.faults g.C.CallRule.allows c.take_turn-turn.result.turnstile.now c.args.main.now (pass_of c.take_turn-turn.result) c.requires.has_call.lies t) c.poll_under-found.ensures.polled c.put_back.ensures.1 c.put_back.ensures.2)
+    (polls_after c.args.main.now (pass_of c.take_turn-turn.result) (pass_of c.poll_under-found.new.turn) c.put_back.new.self.1.0 c.args.ticket c.poll_under-found.result (got (Stands g.O.LinkSink.link g.O.Sink.taken g.O.Sink.faults g.C.CallRule.allows) closes_of c.take_turn-turn.result.turnstile.now c.args.main.now (pass_of c.take_turn-turn.result) t)
+    (keeps_got g.O.LinkSink.link g.O.Sink.taken g.O.Sink.faults g.C.CallRule.allows c.take_turn-turn.result.turnstile.now c.args.main.now (pass_of c.take_turn-turn.result) c.requires.has_call.lies t) c.poll_under-found.ensures.polled c.put_back.ensures.1 c.put_back.ensures.2)
 
 pub returns-clause-law : goal.returns-clause-law
 returns-clause-law g c =
     subst (λ (z : Pass (RequesterWithSink g.row.O.Denot g.row.C.Denot) Entry). KeepsLaw (seen_by z)) (sym (c.main-1.given.1 (sym (c.poll_under-found.ensures.same.1 ∙ c.take_turn-turn.ensures.borrow))))
-    (law_put_back g.O.Sink.taken g.O.Sink.faults g.C.CallRule.allows c.poll_under-found.new.turn c.put_back.new.self.1.0 c.poll_under-found.ensures.ready c.put_back.ensures.1)
+    (law_put_back g.O.LinkSink.link g.O.Sink.taken g.O.Sink.faults g.C.CallRule.allows c.poll_under-found.new.turn c.put_back.new.self.1.0 c.poll_under-found.ensures.ready c.put_back.ensures.1)

@@ -33,14 +33,14 @@ returns-in-Ok-submit_under-clause-rests g c = let main = c.pass-in-Ok-submit_und
     (subst (λ (t : Turnstile (RequesterWithSink g.row.O.Denot g.row.C.Denot) Entry). Rests t c.put_back.new.self.1.0) (c.submit_under.ensures.same.0 ∙ c.in-Ok.ensures.got.0) c.put_back.ensures.0))
     r.source refl
     (subst (λ (z : Pass (RequesterWithSink g.row.O.Denot g.row.C.Denot) Entry). IsCaller {O = g.row.O.Denot} z) (sym e)
-    (caller_on p s es r.caller (adds_same p u s es (adds_both p q u [] es (got (Stands g.O.Sink.taken g.O.Sink.faults g.C.CallRule.allows) closes_of c.in-Ok.turn.turnstile.now p q t) c.in-Ok-submit_under.ensures.accepted.0) c.put_back.ensures.1 c.put_back.ensures.2) ((refl, λ k is. absurd (none_closed k is)), tt))) (subst (λ (z : Pass (RequesterWithSink g.row.O.Denot g.row.C.Denot) Entry). KeepsLaw (seen_by z)) (sym e) (law_put_back g.O.Sink.taken g.O.Sink.faults g.C.CallRule.allows c.submit_under.new.turn s c.submit_under.ensures.ready c.put_back.ensures.1))
+    (caller_on p s es r.caller (adds_same p u s es (adds_both p q u [] es (got (Stands g.O.LinkSink.link g.O.Sink.taken g.O.Sink.faults g.C.CallRule.allows) closes_of c.in-Ok.turn.turnstile.now p q t) c.in-Ok-submit_under.ensures.accepted.0) c.put_back.ensures.1 c.put_back.ensures.2) ((refl, λ k is. absurd (none_closed k is)), tt))) (subst (λ (z : Pass (RequesterWithSink g.row.O.Denot g.row.C.Denot) Entry). KeepsLaw (seen_by z)) (sym e) (law_put_back g.O.LinkSink.link g.O.Sink.taken g.O.Sink.faults g.C.CallRule.allows c.submit_under.new.turn s c.submit_under.ensures.ready c.put_back.ensures.1))
 
 pub returns-in-Ok-submit_under-clause-tried : goal.returns-in-Ok-submit_under-clause-tried
 returns-in-Ok-submit_under-clause-tried g c = let t = c.in-Ok.ensures.got.1 in let a = c.in-Ok-submit_under.ensures.accepted in
     let e = c.pass-in-Ok-submit_under-1.given.1 (sym (c.submit_under.ensures.same.1 ∙ c.in-Ok.ensures.borrow)) in
     let p = c.args.pass.now.main in let q = pass_of c.in-Ok.turn in let r = pass_of c.submit_under.new.turn in let s = c.put_back.new.self.1.0 in
     subst (λ (z : Pass (RequesterWithSink g.row.O.Denot g.row.C.Denot) Entry). OpensCall {O = g.row.O.Denot} p z c.args.call c.args.form c.in-Ok-submit_under.ticket × HasOpenCall {O = g.row.O.Denot} z c.in-Ok-submit_under.ticket) (sym e) (
-      opens_call p q r s c.args.call c.args.form c.in-Ok-submit_under.ticket (got (Stands g.O.Sink.taken g.O.Sink.faults g.C.CallRule.allows) closes_of c.in-Ok.turn.turnstile.now p q t) (keeps_got g.O.Sink.taken g.O.Sink.faults g.C.CallRule.allows c.in-Ok.turn.turnstile.now p q c.requires.rests.caller.lies t)
+      opens_call p q r s c.args.call c.args.form c.in-Ok-submit_under.ticket (got (Stands g.O.LinkSink.link g.O.Sink.taken g.O.Sink.faults g.C.CallRule.allows) closes_of c.in-Ok.turn.turnstile.now p q t) (keeps_got g.O.LinkSink.link g.O.Sink.taken g.O.Sink.faults g.C.CallRule.allows c.in-Ok.turn.turnstile.now p q c.requires.rests.caller.lies t)
           a.0 c.in-Ok-submit_under.ensures.seen c.in-Ok-submit_under.ensures.keeps c.in-Ok-submit_under.ensures.opened c.put_back.ensures.1 c.put_back.ensures.2,
       asked_same r s c.in-Ok-submit_under.ticket c.put_back.ensures.1 c.put_back.ensures.2 a.1,
     )
@@ -54,17 +54,17 @@ returns-in-Err-submit_under-clause-rests g c = let main = c.pass-in-Err-submit_u
     (subst (λ (t : Turnstile (RequesterWithSink g.row.O.Denot g.row.C.Denot) Entry). Rests t c.put_back-in-Err-submit_under.new.self.1.0) (c.submit_under.ensures.same.0 ∙ c.in-Ok.ensures.got.0) c.put_back-in-Err-submit_under.ensures.0))
     r.source refl
     (subst (λ (z : Pass (RequesterWithSink g.row.O.Denot g.row.C.Denot) Entry). IsCaller {O = g.row.O.Denot} z) (sym e)
-    (caller_on p s [] r.caller (adds_same p u s [] (adds_both p q u [] [] (got (Stands g.O.Sink.taken g.O.Sink.faults g.C.CallRule.allows) closes_of c.in-Ok.turn.turnstile.now p q t) c.in-Err-submit_under.ensures.refused) c.put_back-in-Err-submit_under.ensures.1 c.put_back-in-Err-submit_under.ensures.2) tt)) (subst (λ (z : Pass (RequesterWithSink g.row.O.Denot g.row.C.Denot) Entry). KeepsLaw (seen_by z)) (sym e) (law_put_back g.O.Sink.taken g.O.Sink.faults g.C.CallRule.allows c.submit_under.new.turn s c.submit_under.ensures.ready c.put_back-in-Err-submit_under.ensures.1))
+    (caller_on p s [] r.caller (adds_same p u s [] (adds_both p q u [] [] (got (Stands g.O.LinkSink.link g.O.Sink.taken g.O.Sink.faults g.C.CallRule.allows) closes_of c.in-Ok.turn.turnstile.now p q t) c.in-Err-submit_under.ensures.refused) c.put_back-in-Err-submit_under.ensures.1 c.put_back-in-Err-submit_under.ensures.2) tt)) (subst (λ (z : Pass (RequesterWithSink g.row.O.Denot g.row.C.Denot) Entry). KeepsLaw (seen_by z)) (sym e) (law_put_back g.O.LinkSink.link g.O.Sink.taken g.O.Sink.faults g.C.CallRule.allows c.submit_under.new.turn s c.submit_under.ensures.ready c.put_back-in-Err-submit_under.ensures.1))
 
 pub returns-in-Err-submit_under-clause-tried : goal.returns-in-Err-submit_under-clause-tried
 returns-in-Err-submit_under-clause-tried g c = let t = c.in-Ok.ensures.got.1 in let a = c.in-Err-submit_under.ensures.refused in
     let e = c.pass-in-Err-submit_under-1.given.1 (sym (c.submit_under.ensures.same.1 ∙ c.in-Ok.ensures.borrow)) in
     let p = c.args.pass.now.main in let q = pass_of c.in-Ok.turn in let r = pass_of c.submit_under.new.turn in let s = c.put_back-in-Err-submit_under.new.self.1.0 in (
       subst (λ (z : Pass (RequesterWithSink g.row.O.Denot g.row.C.Denot) Entry). Adds {M = RequesterWithSink g.row.O.Denot g.row.C.Denot} {E = Entry} p z []) (sym e)
-          (adds_same p r s [] (adds_both p q r [] [] (got (Stands g.O.Sink.taken g.O.Sink.faults g.C.CallRule.allows) closes_of c.in-Ok.turn.turnstile.now p q t) a) c.put_back-in-Err-submit_under.ensures.1 c.put_back-in-Err-submit_under.ensures.2),
+          (adds_same p r s [] (adds_both p q r [] [] (got (Stands g.O.LinkSink.link g.O.Sink.taken g.O.Sink.faults g.C.CallRule.allows) closes_of c.in-Ok.turn.turnstile.now p q t) a) c.put_back-in-Err-submit_under.ensures.1 c.put_back-in-Err-submit_under.ensures.2),
       (
         subst (λ (z : Pass (RequesterWithSink g.row.O.Denot g.row.C.Denot) Entry). KeepsOpen {O = g.row.O.Denot} p z) (sym e)
-            (λ k o. keeps_same r s c.put_back-in-Err-submit_under.ensures.1 c.put_back-in-Err-submit_under.ensures.2 k (c.in-Err-submit_under.ensures.keeps k (keeps_got g.O.Sink.taken g.O.Sink.faults g.C.CallRule.allows c.in-Ok.turn.turnstile.now p q c.requires.rests.caller.lies t k o))),
+            (λ k o. keeps_same r s c.put_back-in-Err-submit_under.ensures.1 c.put_back-in-Err-submit_under.ensures.2 k (c.in-Err-submit_under.ensures.keeps k (keeps_got g.O.LinkSink.link g.O.Sink.taken g.O.Sink.faults g.C.CallRule.allows c.in-Ok.turn.turnstile.now p q c.requires.rests.caller.lies t k o))),
         (
           c.in-Err-submit_under.ensures.returned,
           subst (λ (z : Pass (RequesterWithSink g.row.O.Denot g.row.C.Denot) Entry). IsRefused c.in-Err-submit_under.refused c.args.call c.args.form (seen_by z)) (sym e)
