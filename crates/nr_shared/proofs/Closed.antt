@@ -16,7 +16,7 @@ use Rattle.nr_shared.specs.declared.source_reader.InitialSource.{InitialSource}
 use Rattle.nr_shared.specs.declared.source_reader.SourceReader.{SourceReader}
 use Rattle.nr_shared.specs.declared.requester_with_sink.RequesterWithSink.{RequesterWithSink}
 use Rattle.nr_shared.specs.Callers.{IsCaller, IsFeeding}
-use Rattle.nr_shared.specs.Feeding.{FeedsFor, InitialGiving, KeepsSourceIf, KeepsSourceOf, shared_giving}
+use Rattle.nr_shared.specs.Feeding.{FeedsFor, InitialGiving, KeepsSourceIf, KeepsSourceOf, address_of, shared_giving}
 use Rattle.nr_shared.specs.Histories.{FeedsInOrder, PresentLink, bytes_fed, closes_of, initial_of, is_feeding, present, sink_of, stop_of, tries_in, tries_of}
 use Rattle.nr_shared.specs.Numbered.{IsBegun}
 use Rattle.nr_shared.specs.Opening.{GivesBack, GivesLink}
@@ -29,7 +29,7 @@ use Rattle.nr_shared.proofs.FeedsOn.{dialer_same, source_same}
 use Rattle.nr_shared.proofs.Histories.{allowed_by, initial_more}
 use Rattle.nr_requester.specs.RequesterState.{RequesterSide}
 use Rattle.nr_shared.proofs.Lists.{at_after, at_begin, in_ordered, not_twice, still_first, still_ordered}
-use Rattle.nr_shared.proofs.Opened.{dialer_begun, source_begun}
+use Rattle.nr_shared.proofs.Opened.{dialer_begun, earlier_begun, source_begun}
 use Rattle.nr_shared.proofs.Resting.{seen_one}
 use Rattle.nr_shared.proofs.Told.{IsTold, tries_told}
 use Rattle.nr_reduce.specs.declared.call.Call.{Call}
@@ -75,10 +75,10 @@ module _ {I O : Type 0} (link : I → ℕ) (left given : I → Option (List ℕ)
   gives_if numbered told shared (Some source) None (Some i) read h s t = absurd t
   gives_if numbered told shared None (Some sink) None read h s t = absurd t
 
-module _ {I O C D : Type 0} (link : I → ℕ) (left given : I → Option (List ℕ)) (source_faults : I → ℕ) (sink_link : O → ℕ) (taken : O → Option (List ℕ)) (sink_faults : O → ℕ) (ended : D → Option LinkLog) (dialer_faults : D → ℕ) (allows : Call → Form → Type 0) where
-  pub gives_back : (p j : TurnPass (RequesterWithSink O C) Entry) (s : SourceReader I O C D) (m : RequesterWithSink O C) (b : InitialSource I O C D) (h : List Entry) → IsCaller p → FeedsFor link left given source_faults ended dialer_faults b s
+module _ {I O C D : Type 0} (link : I → ℕ) (left given : I → Option (List ℕ)) (source_faults : I → ℕ) (sink_link : O → ℕ) (taken : O → Option (List ℕ)) (sink_faults : O → ℕ) (asked : D → Option (List (List ℕ))) (ended : D → Option LinkLog) (dialer_faults : D → ℕ) (allows : Call → Form → Type 0) where
+  pub gives_back : (p j : TurnPass (RequesterWithSink O C) Entry) (s : SourceReader I O C D) (m : RequesterWithSink O C) (b : InitialSource I O C D) (h : List Entry) → IsCaller p → FeedsFor link left given source_faults asked ended dialer_faults b s
       → Joins closes_of p s.pass j → Stands sink_link taken sink_faults allows m h → Begins (seen_by j) h → ((n : ℕ) → IsIn n (mine_of j) → n < length h) → Owns closes_of h (mine_of j) → Earlier closes_of h
-      → GivesBack link left given source_faults sink_link taken sink_faults ended dialer_faults allows (seen_by p) (mine_of p) b.source.value b.dialer.value b.read m.requester (both s.source m.sink) s.dialer
+      → GivesBack link left given source_faults sink_link taken sink_faults asked ended dialer_faults allows (seen_by p) (mine_of p) b.source.value b.dialer.value (address_of b) b.read m.requester (both s.source m.sink) s.dialer
   gives_back p j s m b h c f (longer_is, first, second, mine, rising, own, lies_j, missed) st whole inside owns earlier =
       let begins : Begins (seen_by p) h = begins_then (seen_by p) (seen_by j) h first whole in
       let fed : Begins (seen_by s.pass) h = begins_then (seen_by s.pass) (seen_by j) h second whole in
@@ -116,13 +116,13 @@ module _ {I O C D : Type 0} (link : I → ℕ) (left given : I → Option (List 
             (gives_if link left given source_faults sink_link taken sink_faults x (is_some (ended b.dialer.value)) shared s.source m.sink (sink_of h) (b.read + length (bytes_fed h)) h
             (subst (λ (n : ℕ). KeepsSourceOf link left given source_faults x (is_some (ended b.dialer.value)) shared s.source n (present h)) read (source_same link left given source_faults x (is_some (ended b.dialer.value)) shared s.source s.read (present (seen_by s.pass)) (present h) part f.source))
             st.sink));
-        dialer_is = dialer_same ended dialer_faults shared b.dialer.value s.dialer (present (seen_by s.pass)) (present h) part f.dialer;
+        dialer_is = dialer_same asked ended dialer_faults (address_of b) shared b.dialer.value s.dialer (present (seen_by s.pass)) (present h) part f.dialer;
       }
 
   -- what wasn't shared
-  pub unshared : (m : RequesterWithSink O C) (h : List Entry) (source : I) (dialer : D) (read_before : ℕ) → read_before ≤ read_max → Stands sink_link taken sink_faults allows m h → Earlier closes_of h → IsBegun link ended h source dialer
-      → GivesBack link left given source_faults sink_link taken sink_faults ended dialer_faults allows h [] source dialer read_before m.requester (both (Some source) m.sink) dialer
-  unshared m h source dialer read_before within st earlier begun =
+  pub unshared : (m : RequesterWithSink O C) (h : List Entry) (source : I) (dialer : D) (addr : List ℕ) (read_before : ℕ) → read_before ≤ read_max → Stands sink_link taken sink_faults allows m h → Earlier closes_of h → IsBegun link ended h source dialer
+      → GivesBack link left given source_faults sink_link taken sink_faults asked ended dialer_faults allows h [] source dialer addr read_before m.requester (both (Some source) m.sink) dialer
+  unshared m h source dialer addr read_before within st earlier begun =
       let none : bytes_fed h ≡ [] = ap (λ (l : List Entry). bytes_fed l) begun.history_is in
       record {
         history = h;
@@ -146,16 +146,25 @@ module _ {I O C D : Type 0} (link : I → ℕ) (left given : I → Option (List 
         link_is = (let shared = shared_giving left given source_faults source in let read = read_before + length (bytes_fed h) in
             subst (λ (z : Bool). GivesLink link left given source_faults sink_link taken sink_faults z (is_some (ended dialer)) shared read (both (Some source) m.sink) (sink_of h) h) (ap (λ (o : Option ℕ). is_some o) (ap tries_in st.is_initial))
             (gives_if link left given source_faults sink_link taken sink_faults (is_some (tries_of h)) (is_some (ended dialer)) shared (Some source) m.sink (sink_of h) read h (source_begun link left given source_faults ended (is_some (ended dialer)) h source dialer read begun) st.sink));
-        dialer_is = dialer_begun link ended dialer_faults (shared_giving left given source_faults source) h source dialer begun;
+        dialer_is = dialer_begun link asked ended dialer_faults addr (shared_giving left given source_faults source) h source dialer begun;
       }
 
+  -- the same of what came back
+  pub unshared_as : (m : RequesterWithSink O C) (h : List Entry) (source : I) (dialer : D) (addr : List ℕ) (read_before : ℕ) (r : RequesterSide) (both_halves : Option (I × O)) (d : D) → read_before ≤ read_max → Stands sink_link taken sink_faults allows m h → IsBegun link ended h source dialer
+      → r ≡ m.requester → both_halves ≡ both (Some source) m.sink → d ≡ dialer → GivesBack link left given source_faults sink_link taken sink_faults asked ended dialer_faults allows h [] source dialer addr read_before r both_halves d
+  unshared_as m h source dialer addr read_before r both_halves d within st begun same_requester same_link same_dialer =
+      subst (λ (x : RequesterSide). GivesBack link left given source_faults sink_link taken sink_faults asked ended dialer_faults allows h [] source dialer addr read_before x both_halves d) (sym same_requester)
+      (subst (λ (x : Option (I × O)). GivesBack link left given source_faults sink_link taken sink_faults asked ended dialer_faults allows h [] source dialer addr read_before m.requester x d) (sym same_link)
+      (subst (λ (x : D). GivesBack link left given source_faults sink_link taken sink_faults asked ended dialer_faults allows h [] source dialer addr read_before m.requester (both (Some source) m.sink) x) (sym same_dialer)
+      (unshared m h source dialer addr read_before within st (earlier_begun link ended h source dialer begun) begun)))
+
 -- by another rule, which allows what this one does
-pub back_by : {I O D : Type 0} (link : I → ℕ) (left given : I → Option (List ℕ)) (source_faults : I → ℕ) (sink_link : O → ℕ) (taken : O → Option (List ℕ)) (sink_faults : O → ℕ) (ended : D → Option LinkLog) (dialer_faults : D → ℕ)
+pub back_by : {I O D : Type 0} (link : I → ℕ) (left given : I → Option (List ℕ)) (source_faults : I → ℕ) (sink_link : O → ℕ) (taken : O → Option (List ℕ)) (sink_faults : O → ℕ) (asked : D → Option (List (List ℕ))) (ended : D → Option LinkLog) (dialer_faults : D → ℕ)
     (allows allows' : Call → Form → Type 0) → ((call : Call) (form : Form) → allows call form → allows' call form)
-    → (seen : List Entry) (mine : List ℕ) (first : I) (first_dialer : D) (read_before : ℕ) (r : RequesterSide) (both_halves : Option (I × O)) (dialer : D)
-    → GivesBack link left given source_faults sink_link taken sink_faults ended dialer_faults allows seen mine first first_dialer read_before r both_halves dialer
-    → GivesBack link left given source_faults sink_link taken sink_faults ended dialer_faults allows' seen mine first first_dialer read_before r both_halves dialer
-back_by link left given source_faults sink_link taken sink_faults ended dialer_faults allows allows' more seen mine first first_dialer read_before r both_halves dialer b = record {
+    → (seen : List Entry) (mine : List ℕ) (first : I) (first_dialer : D) (addr : List ℕ) (read_before : ℕ) (r : RequesterSide) (both_halves : Option (I × O)) (dialer : D)
+    → GivesBack link left given source_faults sink_link taken sink_faults asked ended dialer_faults allows seen mine first first_dialer addr read_before r both_halves dialer
+    → GivesBack link left given source_faults sink_link taken sink_faults asked ended dialer_faults allows' seen mine first first_dialer addr read_before r both_halves dialer
+back_by link left given source_faults sink_link taken sink_faults asked ended dialer_faults allows allows' more seen mine first first_dialer addr read_before r both_halves dialer b = record {
   history = b.history;
   begins = b.begins;
   lies = b.lies;
@@ -181,10 +190,10 @@ back_by link left given source_faults sink_link taken sink_faults ended dialer_f
 -- ---- A link that came back
 
 -- it has both halves, unless it may be dialled again
-pub link_back : {I O D : Type 0} (link : I → ℕ) (left given : I → Option (List ℕ)) (source_faults : I → ℕ) (sink_link : O → ℕ) (taken : O → Option (List ℕ)) (sink_faults : O → ℕ) (ended : D → Option LinkLog) (dialer_faults : D → ℕ) (allows : Call → Form → Type 0)
-    (history : List Entry) (mine : List ℕ) (first : I) (first_dialer : D) (read : ℕ) (r : RequesterSide) (dialer : D) → tries_of history ≡ None → (c : InitialState) → initial_of history ≡ Some c
-    → GivesBack link left given source_faults sink_link taken sink_faults ended dialer_faults allows history mine first first_dialer read r None dialer → ⊥
-link_back link left given source_faults sink_link taken sink_faults ended dialer_faults allows history mine first first_dialer read r dialer none c is b = by (sink_of b.history) b.link_is where
+pub link_back : {I O D : Type 0} (link : I → ℕ) (left given : I → Option (List ℕ)) (source_faults : I → ℕ) (sink_link : O → ℕ) (taken : O → Option (List ℕ)) (sink_faults : O → ℕ) (asked : D → Option (List (List ℕ))) (ended : D → Option LinkLog) (dialer_faults : D → ℕ) (allows : Call → Form → Type 0)
+    (history : List Entry) (mine : List ℕ) (first : I) (first_dialer : D) (addr : List ℕ) (read : ℕ) (r : RequesterSide) (dialer : D) → tries_of history ≡ None → (c : InitialState) → initial_of history ≡ Some c
+    → GivesBack link left given source_faults sink_link taken sink_faults asked ended dialer_faults allows history mine first first_dialer addr read r None dialer → ⊥
+link_back link left given source_faults sink_link taken sink_faults asked ended dialer_faults allows history mine first first_dialer addr read r dialer none c is b = by (sink_of b.history) b.link_is where
   same : initial_of b.history ≡ Some c
   same = ap (λ (l : List Entry). initial_of l) b.begins.1 ∙ initial_more history b.begins.0 c is
 
@@ -196,10 +205,10 @@ link_back link left given source_faults sink_link taken sink_faults ended dialer
   by (Some sink) bad = bad
 
 -- it can be hung up, if it may be dialled again
-pub back_open : {I O D : Type 0} (link : I → ℕ) (left given : I → Option (List ℕ)) (source_faults : I → ℕ) (sink_link : O → ℕ) (taken : O → Option (List ℕ)) (sink_faults : O → ℕ) (ended : D → Option LinkLog) (dialer_faults : D → ℕ) (allows : Call → Form → Type 0)
-    (history : List Entry) (mine : List ℕ) (first : I) (first_dialer : D) (read : ℕ) (r : RequesterSide) (source : I) (sink : O) (dialer : D) → is_some (tries_of history) ≡ true → (c : InitialState) → initial_of history ≡ Some c → HasOpenLink (ended first_dialer)
-    → GivesBack link left given source_faults sink_link taken sink_faults ended dialer_faults allows history mine first first_dialer read r (Some (source, sink)) dialer → (link source ≡ sink_link sink) × HasOpenLink (ended dialer)
-back_open link left given source_faults sink_link taken sink_faults ended dialer_faults allows history mine first first_dialer read r source sink dialer some c is opened b = by (sink_of b.history) refl b.link_is where
+pub back_open : {I O D : Type 0} (link : I → ℕ) (left given : I → Option (List ℕ)) (source_faults : I → ℕ) (sink_link : O → ℕ) (taken : O → Option (List ℕ)) (sink_faults : O → ℕ) (asked : D → Option (List (List ℕ))) (ended : D → Option LinkLog) (dialer_faults : D → ℕ) (allows : Call → Form → Type 0)
+    (history : List Entry) (mine : List ℕ) (first : I) (first_dialer : D) (addr : List ℕ) (read : ℕ) (r : RequesterSide) (source : I) (sink : O) (dialer : D) → is_some (tries_of history) ≡ true → (c : InitialState) → initial_of history ≡ Some c → HasOpenLink (ended first_dialer)
+    → GivesBack link left given source_faults sink_link taken sink_faults asked ended dialer_faults allows history mine first first_dialer addr read r (Some (source, sink)) dialer → (link source ≡ sink_link sink) × HasOpenLink (ended dialer)
+back_open link left given source_faults sink_link taken sink_faults asked ended dialer_faults allows history mine first first_dialer addr read r source sink dialer some c is opened b = by (sink_of b.history) refl b.link_is where
   same : initial_of b.history ≡ Some c
   same = ap (λ (l : List Entry). initial_of l) b.begins.1 ∙ initial_more history b.begins.0 c is
 

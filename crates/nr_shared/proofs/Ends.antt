@@ -274,6 +274,7 @@ module _ {O C : Type 0} (link : O → ℕ) (taken : O → Option (List ℕ)) (fa
       may_follow = st.may_follow;
       in_order = st.in_order;
       closes_calls = st.closes_calls;
+      last_open = λ xid k call at un. (st.calls xid k call at un).0;
     }
     by_out true f = record {
       initial = st.initial;
@@ -286,6 +287,7 @@ module _ {O C : Type 0} (link : O → ℕ) (taken : O → Option (List ℕ)) (fa
       may_follow = st.may_follow;
       in_order = st.in_order;
       closes_calls = st.closes_calls;
+      last_open = λ xid k call at un. (st.calls xid k call at un).0;
     }
 
   -- told of the pass after its turn

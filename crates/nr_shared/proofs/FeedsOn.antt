@@ -1,6 +1,7 @@
 -- The pass that feeds, with the source and the dialer: after a turn, a read, and a dial.
 use Rattle.std.proofs.Common.{◌≡◌, ◌≢◌, ℕ, zero, suc, ◌+◌, ◌≤◌, ◌||◌, arith, Bool, true, false, is_some, List, [], ◌∷◌, ◌++◌, length, length-append, append-nil, Option, Some, None, ◌⊎◌, ⊎_elim, inl, inr, refl, sym, ap, subst, ◌∙◌}
 use Rattle.std.specs.Prelude.{IfSome}
+use Rattle.std.specs.String.{string_bytes}
 use Rattle.std.proofs.lemmas.Grind.{flat_map-append}
 use mathlib.Core.Option.{some-injective}
 use lib.ListN.{get_elem?}
@@ -24,7 +25,7 @@ use Rattle.nr_shared.specs.declared.requester_with_sink.RequesterWithSink.{Reque
 use Rattle.nr_shared.specs.Callers.{IsFeeding}
 use Rattle.nr_shared.specs.Dialing.{CannotReopen, DialsNext, HasLink, IsNext, LinkHungUp}
 use Rattle.nr_shared.specs.Draining.{fed_entry, initial_sink, stopped_after}
-use Rattle.nr_shared.specs.Feeding.{Feeds, FeedsFor, HungUp, InitialGiving, KeepsDialer, KeepsSource, KeepsSourceIf, KeepsSourceOf, LinkEndedIf, LinkMade, StopHolds, shared_giving}
+use Rattle.nr_shared.specs.Feeding.{AskedEach, Feeds, FeedsFor, HungUp, InitialGiving, KeepsDialer, KeepsSource, KeepsSourceIf, KeepsSourceOf, LinkEndedIf, LinkMade, StopHolds, address_of, shared_giving}
 use Rattle.nr_shared.specs.Histories.{PastLink, PresentLink, bytes_fed, fed_by, initial_of, is_lost, is_lost_by, is_read_fault, last_feeding, place_or_none, present, present_after, rejoins, tries_of}
 use Rattle.nr_shared.specs.Output.{IsTryLeft}
 use Rattle.nr_shared.specs.Standing.{KeepsSinkIf, KeepsSinkOf}
@@ -163,22 +164,24 @@ module _ {I : Type 0} (link : I → ℕ) (left given : I → Option (List ℕ)) 
 
 -- ---- The dialer
 
-module _ {D : Type 0} (ended : D → Option LinkLog) (faults : D → ℕ) (giving : InitialGiving) where
-  dialer_to : (shared dialer : D) (l : PresentLink) → KeepsDialer ended faults giving shared dialer l → KeepsDialer ended faults giving shared dialer (read_part l)
-  dialer_to shared dialer l k = record { open_link = k.open_link; hung_up = k.hung_up; counted = k.counted; failed = k.failed }
+module _ {D : Type 0} (asked : D → Option (List (List ℕ))) (ended : D → Option LinkLog) (faults : D → ℕ) (addr : List ℕ) (giving : InitialGiving) where
+  dialer_to : (shared dialer : D) (l : PresentLink) → KeepsDialer asked ended faults addr giving shared dialer l → KeepsDialer asked ended faults addr giving shared dialer (read_part l)
+  dialer_to shared dialer l k = record { open_link = k.open_link; hung_up = k.hung_up; dialled = k.dialled; counted = k.counted; failed = k.failed }
 
-  dialer_of : (shared dialer : D) (l : PresentLink) → KeepsDialer ended faults giving shared dialer (read_part l) → KeepsDialer ended faults giving shared dialer l
-  dialer_of shared dialer l k = record { open_link = k.open_link; hung_up = k.hung_up; counted = k.counted; failed = k.failed }
+  dialer_of : (shared dialer : D) (l : PresentLink) → KeepsDialer asked ended faults addr giving shared dialer (read_part l) → KeepsDialer asked ended faults addr giving shared dialer l
+  dialer_of shared dialer l k = record { open_link = k.open_link; hung_up = k.hung_up; dialled = k.dialled; counted = k.counted; failed = k.failed }
 
-  pub dialer_same : (shared dialer : D) (l m : PresentLink) → read_part m ≡ read_part l → KeepsDialer ended faults giving shared dialer l → KeepsDialer ended faults giving shared dialer m
-  dialer_same shared dialer l m is k = dialer_of shared dialer m (subst (λ (x : PresentLink). KeepsDialer ended faults giving shared dialer x) (sym is) (dialer_to shared dialer l k))
+  pub dialer_same : (shared dialer : D) (l m : PresentLink) → read_part m ≡ read_part l → KeepsDialer asked ended faults addr giving shared dialer l → KeepsDialer asked ended faults addr giving shared dialer m
+  dialer_same shared dialer l m is k = dialer_of shared dialer m (subst (λ (x : PresentLink). KeepsDialer asked ended faults addr giving shared dialer x) (sym is) (dialer_to shared dialer l k))
 
   -- it stays, while no dial failed
-  dialer_stays : (shared dialer : D) (l m : PresentLink) → m.sink ≡ l.sink → m.left ≡ l.left → l.stopped ≢ Some causes.DialFault → m.stopped ≢ Some causes.DialFault → KeepsDialer ended faults giving shared dialer l → KeepsDialer ended faults giving shared dialer m
+  dialer_stays : (shared dialer : D) (l m : PresentLink) → m.sink ≡ l.sink → m.left ≡ l.left → l.stopped ≢ Some causes.DialFault → m.stopped ≢ Some causes.DialFault → KeepsDialer asked ended faults addr giving shared dialer l → KeepsDialer asked ended faults addr giving shared dialer m
   dialer_stays shared dialer l m sink left before after k = record {
     open_link = λ some. k.open_link (ap (λ (o : Option InitialSink). is_some o) (sym sink) ∙ some);
     hung_up = subst (λ (o : Option InitialSink). HungUp (is_some (ended shared)) giving o m.left (ended shared) (ended dialer)) (sym sink)
         (subst (λ (past : List PastLink). HungUp (is_some (ended shared)) giving l.sink past (ended shared) (ended dialer)) (sym left) k.hung_up);
+    dialled = subst (λ (o : Option InitialSink). AskedEach addr o m.left (asked shared) (asked dialer)) (sym sink)
+        (subst (λ (past : List PastLink). AskedEach addr l.sink past (asked shared) (asked dialer)) (sym left) k.dialled);
     counted = λ no. k.counted before;
     failed = λ is. absurd (after is);
   }
@@ -220,9 +223,9 @@ lost_some failed (Some causes.NotReopened) lost e = absurd cc
 
 module _ {I O D : Type 0} (link : I → ℕ) (left given : I → Option (List ℕ)) (faults : I → ℕ) (sink_link : O → ℕ) (taken : O → Option (List ℕ)) (sink_faults : O → ℕ) (asked : D → Option (List (List ℕ))) (ended : D → Option LinkLog) (dialer_faults : D → ℕ) (shared : InitialGiving) where
   -- a lost link can be hung up
-  pub can_hang_up : (o : Option I) (k : Option O) (read : ℕ) (l : PresentLink) (first dialer : D) → KeepsSourceOf link left given faults true (is_some (ended first)) shared o read l → KeepsSinkOf sink_link taken sink_faults k l → KeepsDialer ended dialer_faults shared first dialer l → HasOpenLink (ended first)
+  pub can_hang_up : (o : Option I) (k : Option O) (read : ℕ) (l : PresentLink) (first dialer : D) (addr : List ℕ) → KeepsSourceOf link left given faults true (is_some (ended first)) shared o read l → KeepsSinkOf sink_link taken sink_faults k l → KeepsDialer asked ended dialer_faults addr shared first dialer l → HasOpenLink (ended first)
       → HasLink link sink_link ended o k dialer
-  can_hang_up o k read l first dialer source sink keeps opened = by_halves o k l.sink refl source sink where
+  can_hang_up o k read l first dialer addr source sink keeps opened = by_halves o k l.sink refl source sink where
     by_halves : (x : Option I) (y : Option O) (i : Option InitialSink) → l.sink ≡ i → KeepsSourceIf link left given faults true (is_some (ended first)) shared x i read l → KeepsSinkIf sink_link taken sink_faults y i l → HasLink link sink_link ended x y dialer
     by_halves (Some source) (Some sink) (Some i) is a b = (a.number refl ∙ sym b.number, keeps.open_link (ap (λ (z : Option InitialSink). is_some z) is) opened)
     by_halves None None None is a b = tt
@@ -233,7 +236,7 @@ module _ {I O D : Type 0} (link : I → ℕ) (left given : I → Option (List �
 
   -- It was hung up, and the next one was dialled.
   known_next : (o o' : Option I) (k k' : Option O) (l : PresentLink) (first dialer dialer' : D) (addr : List ℕ) → DialsNext link left given faults sink_link taken sink_faults asked ended dialer_faults o o' k k' dialer dialer' addr
-      → KeepsDialer ended dialer_faults shared first dialer l → is_some (ended first) ≡ true → is_some (ended dialer') ≡ true
+      → KeepsDialer asked ended dialer_faults addr shared first dialer l → is_some (ended first) ≡ true → is_some (ended dialer') ≡ true
   known_next o o' k k' l first dialer dialer' addr d keeps known = by_next o' k' d.next where
     hung : (x : Option I) (y : Option O) → LinkHungUp link left given taken x y (ended dialer) d.log → is_some (ended dialer) ≡ true → is_some d.log ≡ true
     hung (Some a) (Some b) up is = ends_known (ended dialer) d.log _ up is
@@ -255,7 +258,7 @@ module _ {I O D : Type 0} (link : I → ℕ) (left given : I → Option (List �
   if_some None given left taken is known = absurd cc
 
   pub source_next : (o o' : Option I) (k k' : Option O) (read : ℕ) (l : PresentLink) (first dialer dialer' : D) (addr : List ℕ) (previous : ℕ) → DialsNext link left given faults sink_link taken sink_faults asked ended dialer_faults o o' k k' dialer dialer' addr
-      → KeepsDialer ended dialer_faults shared first dialer l
+      → KeepsDialer asked ended dialer_faults addr shared first dialer l
       → KeepsSourceOf link left given faults true (is_some (ended first)) shared o' read (present_after l (entries.Rejoin (initial_sink sink_link taken sink_faults k') previous))
   source_next o (Some source) k (Some sink) read l first dialer dialer' addr previous d keeps =
       next_if link left given faults true (is_some (ended first)) shared source (record { link = sink_link sink; faults = sink_faults sink; taken = taken sink }) read previous l d.next.0 d.next.1.0
@@ -266,7 +269,7 @@ module _ {I O D : Type 0} (link : I → ℕ) (left given : I → Option (List �
 
   pub dialer_next : (o o' : Option I) (k k' : Option O) (read : ℕ) (l : PresentLink) (first dialer dialer' : D) (addr : List ℕ) (previous : ℕ) → DialsNext link left given faults sink_link taken sink_faults asked ended dialer_faults o o' k k' dialer dialer' addr
       → KeepsSourceOf link left given faults true (is_some (ended first)) shared o read l → KeepsSinkOf sink_link taken sink_faults k l → l.stopped ≢ Some causes.DialFault
-      → KeepsDialer ended dialer_faults shared first dialer l → KeepsDialer ended dialer_faults shared first dialer' (present_after l (entries.Rejoin (initial_sink sink_link taken sink_faults k') previous))
+      → KeepsDialer asked ended dialer_faults addr shared first dialer l → KeepsDialer asked ended dialer_faults addr shared first dialer' (present_after l (entries.Rejoin (initial_sink sink_link taken sink_faults k') previous))
   dialer_next o o' k k' read l first dialer dialer' addr previous d source sink lost keeps = by_next o' k' d.next where
     past : PastLink
     past = record { sink = l.sink; written = l.written; fed = l.fed }
@@ -293,16 +296,18 @@ module _ {I O D : Type 0} (link : I → ℕ) (left given : I → Option (List �
     hung_on i after made = (ended dialer, d.log, keeps.hung_up, ended_one o k l.sink source sink d.hung_up, made)
 
     by_next : (x : Option I) (y : Option O) → IsNext link left given faults sink_link taken sink_faults x y addr (asked dialer) (asked dialer') d.log (ended dialer') (dialer_faults dialer) (dialer_faults dialer')
-        → KeepsDialer ended dialer_faults shared first dialer' (present_after l (entries.Rejoin (initial_sink sink_link taken sink_faults y) previous))
+        → KeepsDialer asked ended dialer_faults addr shared first dialer' (present_after l (entries.Rejoin (initial_sink sink_link taken sink_faults y) previous))
     by_next (Some a) (Some b) n = record {
       open_link = λ some opened. n.1.1.1.0.1;
       hung_up = hung_on (Some (record { link = sink_link b; faults = sink_faults b; taken = taken b })) (ended dialer') n.1.1.1.0;
+      dialled = (asked dialer, keeps.dialled, n.1.1.0);
       counted = λ no. n.1.1.1.1.1 ∙ keeps.counted lost;
       failed = λ is. absurd cc;
     }
     by_next None None n = record {
       open_link = λ some opened. absurd cc;
       hung_up = hung_on None (ended dialer') n.1.0;
+      dialled = (asked dialer, keeps.dialled, n.0);
       counted = λ no. absurd (no refl);
       failed = λ is. subst (λ (z : ℕ). Rises z (dialer_faults dialer')) (keeps.counted lost) n.1.1;
     }
@@ -311,21 +316,21 @@ module _ {I O D : Type 0} (link : I → ℕ) (left given : I → Option (List �
 
 -- ---- The reader
 
-module _ {I O C D : Type 0} (link : I → ℕ) (left given : I → Option (List ℕ)) (faults : I → ℕ) (ended : D → Option LinkLog) (dialer_faults : D → ℕ) where
+module _ {I O C D : Type 0} (link : I → ℕ) (left given : I → Option (List ℕ)) (faults : I → ℕ) (asked : D → Option (List (List ℕ))) (ended : D → Option LinkLog) (dialer_faults : D → ℕ) where
   -- what a source and a dialer are after a history: since they were shared so
   pub record Reads (b : InitialSource I O C D) (source : Option I) (dialer : D) (read : ℕ) (h : List Entry) : Type 0 where
     pub source_is : KeepsSourceOf link left given faults (is_some (tries_of h)) (is_some (ended b.dialer.value)) (shared_giving left given faults b.source.value) source read (present h)
-    pub dialer_is : KeepsDialer ended dialer_faults (shared_giving left given faults b.source.value) b.dialer.value dialer (present h)
+    pub dialer_is : KeepsDialer asked ended dialer_faults (address_of b) (shared_giving left given faults b.source.value) b.dialer.value dialer (present h)
     pub open_link : is_some (tries_of h) ≡ true → HasOpenLink (ended b.dialer.value)
     pub read_is : read ≡ b.read + length (bytes_fed h)
     pub within : read ≤ read_max
 
-  pub of_feeds : (b : InitialSource I O C D) (s : SourceReader I O C D) → FeedsFor link left given faults ended dialer_faults b s → Reads b s.source s.dialer s.read (seen_by s.pass)
+  pub of_feeds : (b : InitialSource I O C D) (s : SourceReader I O C D) → FeedsFor link left given faults asked ended dialer_faults b s → Reads b s.source s.dialer s.read (seen_by s.pass)
   of_feeds b s f = record { source_is = f.source; dialer_is = f.dialer; open_link = f.open_link; read_is = f.read; within = f.within }
 
-  pub to_feeds : (b : InitialSource I O C D) (s : SourceReader I O C D) → home_of s.pass ≡ home_of b.pass.value → IsOutside s.pass → Lies (seen_by s.pass) (mine_of s.pass) → IsFeeding s.pass → length s.buf.items ≡ piece_max → Reads b s.source s.dialer s.read (seen_by s.pass)
-      → FeedsFor link left given faults ended dialer_faults b s
-  to_feeds b s home outside lies feeding room r = record { home = home; outside = outside; lies = lies; feeding = feeding; source = r.source_is; dialer = r.dialer_is; open_link = r.open_link; read = r.read_is; within = r.within; room = room }
+  pub to_feeds : (b : InitialSource I O C D) (s : SourceReader I O C D) → string_bytes s.addr ≡ address_of b → home_of s.pass ≡ home_of b.pass.value → IsOutside s.pass → Lies (seen_by s.pass) (mine_of s.pass) → IsFeeding s.pass → length s.buf.items ≡ piece_max → Reads b s.source s.dialer s.read (seen_by s.pass)
+      → FeedsFor link left given faults asked ended dialer_faults b s
+  to_feeds b s address home outside lies feeding room r = record { home = home; outside = outside; lies = lies; feeding = feeding; source = r.source_is; dialer = r.dialer_is; open_link = r.open_link; address = address; read = r.read_is; within = r.within; room = room }
 
   -- entries that tell nothing of the link at hand but what is written
   pub reads_turned : (b : InitialSource I O C D) (source : Option I) (dialer : D) (read : ℕ) (h k : List Entry) → Reads b source dialer read h → tries_of k ≡ tries_of h → bytes_fed k ≡ bytes_fed h → read_part (present k) ≡ read_part (present h) → Reads b source dialer read k
@@ -334,7 +339,7 @@ module _ {I O C D : Type 0} (link : I → ℕ) (left given : I → Option (List 
       record {
         source_is = subst (λ (x : Bool). KeepsSourceOf link left given faults x (is_some (ended b.dialer.value)) shared source read (present k)) (ap (λ (o : Option ℕ). is_some o) (sym tries))
             (source_same link left given faults (is_some (tries_of h)) (is_some (ended b.dialer.value)) shared source read (present h) (present k) part r.source_is);
-        dialer_is = dialer_same ended dialer_faults shared b.dialer.value dialer (present h) (present k) part r.dialer_is;
+        dialer_is = dialer_same asked ended dialer_faults (address_of b) shared b.dialer.value dialer (present h) (present k) part r.dialer_is;
         open_link = λ some. r.open_link (ap (λ (o : Option ℕ). is_some o) (sym tries) ∙ some);
         read_is = r.read_is ∙ ap (λ (l : List ℕ). b.read + length l) (sym bytes);
         within = r.within;
@@ -351,8 +356,8 @@ module _ {I O C D : Type 0} (link : I → ℕ) (left given : I → Option (List 
       record {
         source_is = subst (λ (z : Bool). KeepsSourceOf link left given faults z (is_some (ended b.dialer.value)) shared (Some source') read' (present k)) (ap (λ (o : Option ℕ). is_some o) (sym tries))
             (by_part link left given faults x (is_some (ended b.dialer.value)) shared (Some source') read' (present k) (present_after l (fed_entry out piece 0)) part (piece_of shared x out l goes (to_part link left given faults x (is_some (ended b.dialer.value)) shared (Some source) l.sink read (present h) r.source_is)));
-        dialer_is = dialer_of ended dialer_faults shared b.dialer.value dialer (present k) (subst (λ (m : PresentLink). KeepsDialer ended dialer_faults shared b.dialer.value dialer m) (sym part)
-            (dialer_piece shared out l goes (dialer_to ended dialer_faults shared b.dialer.value dialer (present h) r.dialer_is)));
+        dialer_is = dialer_of asked ended dialer_faults (address_of b) shared b.dialer.value dialer (present k) (subst (λ (m : PresentLink). KeepsDialer asked ended dialer_faults (address_of b) shared b.dialer.value dialer m) (sym part)
+            (dialer_piece shared out l goes (dialer_to asked ended dialer_faults (address_of b) shared b.dialer.value dialer (present h) r.dialer_is)));
         open_link = λ some. r.open_link (ap (λ (o : Option ℕ). is_some o) (sym tries) ∙ some);
         read_is = (let was = r.read_is in let len = ap length bytes ∙ length-append (bytes_fed h) piece in omega (arith, was, more, len));
         within = within;
@@ -361,9 +366,9 @@ module _ {I O C D : Type 0} (link : I → ℕ) (left given : I → Option (List 
         piece_of shared x true l none k = piece_if link left given faults x (is_some (ended b.dialer.value)) shared source source' l.sink read read' l piece true gave number same none k
         piece_of shared x false l none k = piece_if link left given faults x (is_some (ended b.dialer.value)) shared source source' l.sink read read' l piece false gave number same none k
 
-        dialer_piece : (shared : InitialGiving) (o : Bool) (l : PresentLink) → l.stopped ≡ None → KeepsDialer ended dialer_faults shared b.dialer.value dialer l → KeepsDialer ended dialer_faults shared b.dialer.value dialer (present_after l (fed_entry o piece 0))
-        dialer_piece shared true l none k = dialer_stays ended dialer_faults shared b.dialer.value dialer l (present_after l (fed_entry true piece 0)) refl refl (λ e. none_some causes.DialFault (sym none ∙ e)) (none_dial true piece 0 l none) k
-        dialer_piece shared false l none k = dialer_stays ended dialer_faults shared b.dialer.value dialer l (present_after l (fed_entry false piece 0)) refl refl (λ e. none_some causes.DialFault (sym none ∙ e)) (none_dial false piece 0 l none) k
+        dialer_piece : (shared : InitialGiving) (o : Bool) (l : PresentLink) → l.stopped ≡ None → KeepsDialer asked ended dialer_faults (address_of b) shared b.dialer.value dialer l → KeepsDialer asked ended dialer_faults (address_of b) shared b.dialer.value dialer (present_after l (fed_entry o piece 0))
+        dialer_piece shared true l none k = dialer_stays asked ended dialer_faults (address_of b) shared b.dialer.value dialer l (present_after l (fed_entry true piece 0)) refl refl (λ e. none_some causes.DialFault (sym none ∙ e)) (none_dial true piece 0 l none) k
+        dialer_piece shared false l none k = dialer_stays asked ended dialer_faults (address_of b) shared b.dialer.value dialer l (present_after l (fed_entry false piece 0)) refl refl (λ e. none_some causes.DialFault (sym none ∙ e)) (none_dial false piece 0 l none) k
 
   -- no more is read
   pub reads_stopped : (b : InitialSource I O C D) (source source' : I) (dialer : D) (read : ℕ) (h k : List Entry) (cause : Stop) → Reads b (Some source) dialer read h → tries_of k ≡ tries_of h
@@ -378,8 +383,8 @@ module _ {I O C D : Type 0} (link : I → ℕ) (left given : I → Option (List 
         source_is = subst (λ (z : Bool). KeepsSourceOf link left given faults z (is_some (ended b.dialer.value)) shared (Some source') read (present k)) (ap (λ (o : Option ℕ). is_some o) (sym tries))
             (by_part link left given faults x (is_some (ended b.dialer.value)) shared (Some source') read (present k) (present_after l (entries.Stopped cause 0)) part
             (stop_if link left given faults x (is_some (ended b.dialer.value)) shared source source' l.sink read l cause gave number rises same holds (to_part link left given faults x (is_some (ended b.dialer.value)) shared (Some source) l.sink read (present h) r.source_is)));
-        dialer_is = dialer_of ended dialer_faults shared b.dialer.value dialer (present k) (subst (λ (m : PresentLink). KeepsDialer ended dialer_faults shared b.dialer.value dialer m) (sym part)
-            (dialer_stays ended dialer_faults shared b.dialer.value dialer l (present_after l (entries.Stopped cause 0)) refl refl (λ e. none_some causes.DialFault (sym goes ∙ e)) (λ e. no_dial cause ends e) (dialer_to ended dialer_faults shared b.dialer.value dialer (present h) r.dialer_is)));
+        dialer_is = dialer_of asked ended dialer_faults (address_of b) shared b.dialer.value dialer (present k) (subst (λ (m : PresentLink). KeepsDialer asked ended dialer_faults (address_of b) shared b.dialer.value dialer m) (sym part)
+            (dialer_stays asked ended dialer_faults (address_of b) shared b.dialer.value dialer l (present_after l (entries.Stopped cause 0)) refl refl (λ e. none_some causes.DialFault (sym goes ∙ e)) (λ e. no_dial cause ends e) (dialer_to asked ended dialer_faults (address_of b) shared b.dialer.value dialer (present h) r.dialer_is)));
         open_link = λ some. r.open_link (ap (λ (o : Option ℕ). is_some o) (sym tries) ∙ some);
         read_is = r.read_is ∙ ap (λ (bs : List ℕ). b.read + length bs) (sym bytes);
         within = r.within;
@@ -406,8 +411,8 @@ module _ {I O C D : Type 0} (link : I → ℕ) (left given : I → Option (List 
       record {
         source_is = subst (λ (x : Bool). KeepsSourceOf link left given faults x (is_some (ended b.dialer.value)) shared source read (present (h ++ e ∷ []))) (ap (λ (o : Option ℕ). is_some o) (sym tries))
             (subst (λ (m : PresentLink). KeepsSourceOf link left given faults (is_some (tries_of h)) (is_some (ended b.dialer.value)) shared source read m) (sym now) (stays_if shared (is_some (tries_of h)) source l.sink r.source_is));
-        dialer_is = subst (λ (m : PresentLink). KeepsDialer ended dialer_faults shared b.dialer.value dialer m) (sym now)
-            (dialer_stays ended dialer_faults shared b.dialer.value dialer l (present_after l e) refl refl (lost_some l.write_failed l.stopped lost) (λ same. no_dial cause cannot same) r.dialer_is);
+        dialer_is = subst (λ (m : PresentLink). KeepsDialer asked ended dialer_faults (address_of b) shared b.dialer.value dialer m) (sym now)
+            (dialer_stays asked ended dialer_faults (address_of b) shared b.dialer.value dialer l (present_after l e) refl refl (lost_some l.write_failed l.stopped lost) (λ same. no_dial cause cannot same) r.dialer_is);
         open_link = λ some. r.open_link (ap (λ (o : Option ℕ). is_some o) (sym tries) ∙ some);
         read_is = r.read_is ∙ ap (λ (bs : List ℕ). b.read + length bs) (sym bytes);
         within = r.within;
@@ -436,17 +441,17 @@ module _ {I O C D : Type 0} (link : I → ℕ) (left given : I → Option (List 
         stays_if shared x None (Some sink) k = absurd k
 
   -- the value of the source's turn
-  pub feeds_value : (b : InitialSource I O C D) (s t : SourceReader I O C D) (h : List (InitialSource I O C D)) → h ≡ b ∷ [] → Feeds link left given faults ended dialer_faults s h → s ≡ t → FeedsFor link left given faults ended dialer_faults b t
-  feeds_value b s t h one (d, two, f) same = subst (FeedsFor link left given faults ended dialer_faults b) same (subst (λ (x : InitialSource I O C D). FeedsFor link left given faults ended dialer_faults x s) (only d b (sym two ∙ one)) f) where
+  pub feeds_value : (b : InitialSource I O C D) (s t : SourceReader I O C D) (h : List (InitialSource I O C D)) → h ≡ b ∷ [] → Feeds link left given faults asked ended dialer_faults s h → s ≡ t → FeedsFor link left given faults asked ended dialer_faults b t
+  feeds_value b s t h one (d, two, f) same = subst (FeedsFor link left given faults asked ended dialer_faults b) same (subst (λ (x : InitialSource I O C D). FeedsFor link left given faults asked ended dialer_faults x s) (only d b (sym two ∙ one)) f) where
     only : (x y : InitialSource I O C D) → x ∷ [] ≡ y ∷ [] → x ≡ y
     only x y is = some-injective x y (ap (λ (l : List (InitialSource I O C D)). get_elem? l 0) is)
 
 -- The lost link was left, and the next one was dialled.
 pub reads_rejoined : {I O C D : Type 0} (link : I → ℕ) (left given : I → Option (List ℕ)) (faults : I → ℕ) (sink_link : O → ℕ) (taken : O → Option (List ℕ)) (sink_faults : O → ℕ) (asked : D → Option (List (List ℕ))) (ended : D → Option LinkLog) (dialer_faults : D → ℕ)
-    (b : InitialSource I O C D) (source source' : Option I) (dialer dialer' : D) (read : ℕ) (h : List Entry) (c : InitialState) (k k' : Option O) (addr : List ℕ) (previous : ℕ) → Reads link left given faults ended dialer_faults b source dialer read h → initial_of h ≡ Some c
-    → KeepsSinkOf sink_link taken sink_faults k (present h) → is_some (tries_of h) ≡ true → is_lost h ≡ true → DialsNext link left given faults sink_link taken sink_faults asked ended dialer_faults source source' k k' dialer dialer' addr
-    → Reads link left given faults ended dialer_faults b source' dialer' read (h ++ entries.Rejoin (initial_sink sink_link taken sink_faults k') previous ∷ [])
-reads_rejoined link left given faults sink_link taken sink_faults asked ended dialer_faults b source source' dialer dialer' read h c k k' addr previous r is sink some lost dials =
+    (b : InitialSource I O C D) (source source' : Option I) (dialer dialer' : D) (read : ℕ) (h : List Entry) (c : InitialState) (k k' : Option O) (previous : ℕ) → Reads link left given faults asked ended dialer_faults b source dialer read h → initial_of h ≡ Some c
+    → KeepsSinkOf sink_link taken sink_faults k (present h) → is_some (tries_of h) ≡ true → is_lost h ≡ true → DialsNext link left given faults sink_link taken sink_faults asked ended dialer_faults source source' k k' dialer dialer' (address_of b)
+    → Reads link left given faults asked ended dialer_faults b source' dialer' read (h ++ entries.Rejoin (initial_sink sink_link taken sink_faults k') previous ∷ [])
+reads_rejoined link left given faults sink_link taken sink_faults asked ended dialer_faults b source source' dialer dialer' read h c k k' previous r is sink some lost dials =
     let shared = shared_giving left given faults b.source.value in
     let e : Entry = entries.Rejoin (initial_sink sink_link taken sink_faults k') previous in
     let now : present (h ++ e ∷ []) ≡ present_after (present h) e = present_end h e in
@@ -456,9 +461,9 @@ reads_rejoined link left given faults sink_link taken sink_faults asked ended di
     record {
       source_is = subst (λ (z : Bool). KeepsSourceOf link left given faults z (is_some (ended b.dialer.value)) shared source' read (present (h ++ e ∷ []))) (sym (ap (λ (o : Option ℕ). is_some o) tries ∙ some))
           (subst (λ (m : PresentLink). KeepsSourceOf link left given faults true (is_some (ended b.dialer.value)) shared source' read m) (sym now)
-          (source_next link left given faults sink_link taken sink_faults asked ended dialer_faults shared source source' k k' read l b.dialer.value dialer dialer' addr previous dials r.dialer_is));
-      dialer_is = subst (λ (m : PresentLink). KeepsDialer ended dialer_faults shared b.dialer.value dialer' m) (sym now)
-          (dialer_next link left given faults sink_link taken sink_faults asked ended dialer_faults shared source source' k k' read l b.dialer.value dialer dialer' addr previous dials
+          (source_next link left given faults sink_link taken sink_faults asked ended dialer_faults shared source source' k k' read l b.dialer.value dialer dialer' (address_of b) previous dials r.dialer_is));
+      dialer_is = subst (λ (m : PresentLink). KeepsDialer asked ended dialer_faults (address_of b) shared b.dialer.value dialer' m) (sym now)
+          (dialer_next link left given faults sink_link taken sink_faults asked ended dialer_faults shared source source' k k' read l b.dialer.value dialer dialer' (address_of b) previous dials
           (subst (λ (z : Bool). KeepsSourceOf link left given faults z (is_some (ended b.dialer.value)) shared source read l) some r.source_is) sink (lost_some l.write_failed l.stopped lost) r.dialer_is);
       open_link = λ is. r.open_link some;
       read_is = r.read_is ∙ ap (λ (bs : List ℕ). b.read + length bs) (sym bytes);
@@ -477,28 +482,29 @@ either_way false same other = other refl
 
 module _ {I O C D : Type 0} (link : I → ℕ) (left given : I → Option (List ℕ)) (faults : I → ℕ) (sink_link : O → ℕ) (taken : O → Option (List ℕ)) (sink_faults : O → ℕ) (asked : D → Option (List (List ℕ))) (ended : D → Option LinkLog) (dialer_faults : D → ℕ) where
   -- a lost link can be hung up
-  pub hangs_up : (b : InitialSource I O C D) (source : Option I) (dialer : D) (read : ℕ) (h : List Entry) → Reads link left given faults ended dialer_faults b source dialer read h → CanHangUp link sink_link taken sink_faults ended h source dialer
+  pub hangs_up : (b : InitialSource I O C D) (source : Option I) (dialer : D) (read : ℕ) (h : List Entry) → Reads link left given faults asked ended dialer_faults b source dialer read h → CanHangUp link sink_link taken sink_faults ended h source dialer
   hangs_up b source dialer read h r may sink keeps =
       let shared = shared_giving left given faults b.source.value in
       let some = tries_some (tries_of h) (rejoins h) may.try_left in
-      can_hang_up link left given faults sink_link taken sink_faults asked ended dialer_faults shared source sink read (present h) b.dialer.value dialer
+      can_hang_up link left given faults sink_link taken sink_faults asked ended dialer_faults shared source sink read (present h) b.dialer.value dialer (address_of b)
       (subst (λ (z : Bool). KeepsSourceOf link left given faults z (is_some (ended b.dialer.value)) shared source read (present h)) some r.source_is) keeps r.dialer_is (r.open_link some)
 
   -- the link at hand stays, or was left
-  pub reads_after : (b : InitialSource I O C D) (source source' : Option I) (dialer dialer' : D) (read : ℕ) (h k : List Entry) (addr : List ℕ) (c : InitialState) → initial_of h ≡ Some c → Reads link left given faults ended dialer_faults b source dialer read h
-      → IsUnmoved h k source source' dialer dialer' ⊎ Redials link left given faults sink_link taken sink_faults asked ended dialer_faults h k source source' dialer dialer' addr → Reads link left given faults ended dialer_faults b source' dialer' read k
-  reads_after b source source' dialer dialer' read h k addr c is r does = ⊎_elim
+  pub reads_after : (b : InitialSource I O C D) (source source' : Option I) (dialer dialer' : D) (read : ℕ) (h k : List Entry) (addr : List ℕ) (c : InitialState) → addr ≡ address_of b → initial_of h ≡ Some c → Reads link left given faults asked ended dialer_faults b source dialer read h
+      → IsUnmoved h k source source' dialer dialer' ⊎ Redials link left given faults sink_link taken sink_faults asked ended dialer_faults h k source source' dialer dialer' addr → Reads link left given faults asked ended dialer_faults b source' dialer' read k
+  reads_after b source source' dialer dialer' read h k addr c to is r does = ⊎_elim
       (λ (same : IsUnmoved h k source source' dialer dialer').
-      subst (λ (l : List Entry). Reads link left given faults ended dialer_faults b source' dialer' read l) (sym same.0)
-      (subst (λ (i : Option I). Reads link left given faults ended dialer_faults b i dialer' read h) (sym same.1.0) (subst (λ (d : D). Reads link left given faults ended dialer_faults b source d read h) (sym same.1.1) r)))
+      subst (λ (l : List Entry). Reads link left given faults asked ended dialer_faults b source' dialer' read l) (sym same.0)
+      (subst (λ (i : Option I). Reads link left given faults asked ended dialer_faults b i dialer' read h) (sym same.1.0) (subst (λ (d : D). Reads link left given faults asked ended dialer_faults b source d read h) (sym same.1.1) r)))
       (λ (redials : Redials link left given faults sink_link taken sink_faults asked ended dialer_faults h k source source' dialer dialer' addr). ⊎_elim
       (λ (l : Leaves link left given faults sink_link taken sink_faults asked ended dialer_faults h k source source' dialer dialer' addr).
-      subst (λ (x : List Entry). Reads link left given faults ended dialer_faults b source' dialer' read x) (sym l.seen)
-      (reads_rejoined link left given faults sink_link taken sink_faults asked ended dialer_faults b source source' dialer dialer' read h c l.was l.sink addr (place_or_none (last_feeding h)) r is l.stood (tries_some (tries_of h) (rejoins h) redials.may.try_left) redials.may.lost l.dials))
+      subst (λ (x : List Entry). Reads link left given faults asked ended dialer_faults b source' dialer' read x) (sym l.seen)
+      (reads_rejoined link left given faults sink_link taken sink_faults asked ended dialer_faults b source source' dialer dialer' read h c l.was l.sink (place_or_none (last_feeding h)) r is l.stood (tries_some (tries_of h) (rejoins h) redials.may.try_left) redials.may.lost
+      (subst (λ (z : List ℕ). DialsNext link left given faults sink_link taken sink_faults asked ended dialer_faults source source' l.was l.sink dialer dialer' z) to l.dials)))
       (λ (s : StaysLost h k source source' dialer dialer').
-      subst (λ (x : List Entry). Reads link left given faults ended dialer_faults b source' dialer' read x) (sym s.seen)
-      (subst (λ (i : Option I). Reads link left given faults ended dialer_faults b i dialer' read (h ++ stopped_after h s.cause ∷ [])) (sym s.source_is)
-      (subst (λ (d : D). Reads link left given faults ended dialer_faults b source d read (h ++ stopped_after h s.cause ∷ [])) (sym s.dialer_is)
-      (reads_stay link left given faults ended dialer_faults b source dialer read h c s.cause (place_or_none (last_feeding h)) r is redials.may.lost s.cannot))))
+      subst (λ (x : List Entry). Reads link left given faults asked ended dialer_faults b source' dialer' read x) (sym s.seen)
+      (subst (λ (i : Option I). Reads link left given faults asked ended dialer_faults b i dialer' read (h ++ stopped_after h s.cause ∷ [])) (sym s.source_is)
+      (subst (λ (d : D). Reads link left given faults asked ended dialer_faults b source d read (h ++ stopped_after h s.cause ∷ [])) (sym s.dialer_is)
+      (reads_stay link left given faults asked ended dialer_faults b source dialer read h c s.cause (place_or_none (last_feeding h)) r is redials.may.lost s.cannot))))
       redials.does)
       does

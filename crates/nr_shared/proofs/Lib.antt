@@ -28,4 +28,5 @@ pub mod Submitting
 pub mod GivingUp
 pub mod Opened
 pub mod Closed
+pub mod Dialled
 pub mod FeedsOn

@@ -2,6 +2,7 @@
 use Rattle.std.proofs.Common.{◌≡◌, ◌⊎◌, ⊎_elim, ℕ, zero, suc, ◌^◌, ◌<◌, ◌≤◌, ◌==◌, arith, Bool, true, false, is_some, List, [], ◌∷◌, length, append-nil, Option, Some, None, refl, sym, ap, subst, ◌∙◌, eq-eqb}
 use Rattle.std.proofs.lemmas.Bool.{cases_lt}
 use Rattle.std.specs.Io.KnownBytes.{Appends}
+use Rattle.std.specs.String.{string_bytes}
 use Rattle.std.proofs.KnownBytes.{Appends-nil}
 use mathlib.Core.Option.{some, some-injective, some-ne-none}
 use lib.ListN.{get_elem?}
@@ -29,7 +30,7 @@ use Rattle.nr_shared.specs.declared.source_reader.InitialSource.{InitialSource}
 use Rattle.nr_shared.specs.declared.source_reader.SourceReader.{SourceReader}
 use Rattle.nr_shared.specs.declared.requester_with_sink.RequesterWithSink.{RequesterWithSink}
 use Rattle.nr_shared.specs.Callers.{IsFeeding}
-use Rattle.nr_shared.specs.Feeding.{FeedsFor, InitialGiving, KeepsDialer, KeepsSourceOf, shared_giving}
+use Rattle.nr_shared.specs.Feeding.{FeedsFor, InitialGiving, KeepsDialer, KeepsSourceOf, address_of, shared_giving}
 use Rattle.nr_shared.specs.Histories.{AreAllowed, IsCallAt, submitted_call, bytes_fed, closes_of, initial_of, last_feeding, present, tries_of}
 use Rattle.nr_shared.specs.Opening.{IsInitialHistory}
 use Rattle.nr_shared.specs.LinkRuns.{FitsInitialState, OpenedLink, is_of, links_of}
@@ -149,6 +150,19 @@ module _ {O : Type 0} (link : O → ℕ) (taken : O → Option (List ℕ)) (faul
   pub earlier_opened : (r : RequesterSide) (sink : O) (tries : Option ℕ) (history : List Entry) → IsInitialHistory link taken faults r sink tries history → Earlier closes_of history
   earlier_opened r sink tries history o = subst (Earlier closes_of) (sym o.history_is) (earlier_first o.initial)
 
+-- the history of a requester that is never reopened
+pub begun_once : {I O D : Type 0} (source_link : I → ℕ) (link : O → ℕ) (taken : O → Option (List ℕ)) (faults : O → ℕ) (ended : D → Option LinkLog) (r : RequesterSide) (sink : O) (history : List Entry) (source : I) (dialer : D) → IsInitialHistory link taken faults r sink None history → IsBegun source_link ended history source dialer
+begun_once source_link link taken faults ended r sink history source dialer o = record {
+  initial = o.initial;
+  history_is = o.history_is;
+  same = λ some. absurd (false_true (sym (ap (λ (t : Option ℕ). is_some t) o.tries_are) ∙ some));
+  link_made = λ some. absurd (false_true (sym (ap (λ (t : Option ℕ). is_some t) o.tries_are) ∙ some));
+}
+
+-- its initial state
+pub initial_once : {O : Type 0} (link : O → ℕ) (taken : O → Option (List ℕ)) (faults : O → ℕ) (r : RequesterSide) (sink : O) (tries : Option ℕ) (history : List Entry) → IsInitialHistory link taken faults r sink tries history → (c : InitialState) × ((initial_of history ≡ Some c) × (tries_of history ≡ tries))
+initial_once link taken faults r sink tries history o = (o.initial, (ap (λ (h : List Entry). initial_of h) o.history_is, ap (λ (h : List Entry). tries_of h) o.history_is ∙ o.tries_are))
+
 -- of a history of one entry, the initial state
 pub earlier_begun : {I D : Type 0} (link : I → ℕ) (ended : D → Option LinkLog) (history : List Entry) (source : I) (dialer : D) → IsBegun link ended history source dialer → Earlier closes_of history
 earlier_begun link ended history source dialer o = subst (Earlier closes_of) (sym o.history_is) (earlier_first o.initial)
@@ -198,18 +212,19 @@ pub source_begun : {I D : Type 0} (link : I → ℕ) (left given : I → Option 
 source_begun link left given faults ended told history source dialer read o = subst (λ (h : List Entry). KeepsSourceOf link left given faults (is_some (tries_of h)) told (shared_giving left given faults source) (Some source) read (present h)) (sym o.history_is)
     (source_first link left given faults told o.initial source read o.same)
 
-pub dialer_begun : {I D : Type 0} (link : I → ℕ) (ended : D → Option LinkLog) (faults : D → ℕ) (giving : InitialGiving) (history : List Entry) (source : I) (dialer : D) → IsBegun link ended history source dialer → KeepsDialer ended faults giving dialer dialer (present history)
-dialer_begun link ended faults giving history source dialer o = subst (λ (h : List Entry). KeepsDialer ended faults giving dialer dialer (present h)) (sym o.history_is) (record {
+pub dialer_begun : {I D : Type 0} (link : I → ℕ) (asked : D → Option (List (List ℕ))) (ended : D → Option LinkLog) (faults : D → ℕ) (addr : List ℕ) (giving : InitialGiving) (history : List Entry) (source : I) (dialer : D) → IsBegun link ended history source dialer → KeepsDialer asked ended faults addr giving dialer dialer (present history)
+dialer_begun link asked ended faults addr giving history source dialer o = subst (λ (h : List Entry). KeepsDialer asked ended faults addr giving dialer dialer (present h)) (sym o.history_is) (record {
   open_link = λ some opened. opened;
   hung_up = refl;
+  dialled = refl;
   counted = λ no. refl;
   failed = λ is. absurd cc;
 })
 
-pub first_reader : {I O C D : Type 0} (link : I → ℕ) (left given : I → Option (List ℕ)) (faults : I → ℕ) (ended : D → Option LinkLog) (dialer_faults : D → ℕ) (b : InitialSource I O C D) (s : SourceReader I O C D) (history : List Entry)
-    → home_of s.pass ≡ home_of b.pass.value → IsOutside s.pass → Lies (seen_by s.pass) (mine_of s.pass) → IsFeeding s.pass → seen_by s.pass ≡ history → IsBegun link ended history b.source.value b.dialer.value
-    → s.source ≡ Some b.source.value → s.dialer ≡ b.dialer.value → s.read ≡ b.read → b.read ≤ read_max → length s.buf.items ≡ piece_max → FeedsFor link left given faults ended dialer_faults b s
-first_reader {I} {O} {C} {D} link left given faults ended dialer_faults b s history home outside lies feeding seen o source dialer read small room = record {
+pub first_reader : {I O C D : Type 0} (link : I → ℕ) (left given : I → Option (List ℕ)) (faults : I → ℕ) (asked : D → Option (List (List ℕ))) (ended : D → Option LinkLog) (dialer_faults : D → ℕ) (b : InitialSource I O C D) (s : SourceReader I O C D) (history : List Entry)
+    → string_bytes s.addr ≡ address_of b → home_of s.pass ≡ home_of b.pass.value → IsOutside s.pass → Lies (seen_by s.pass) (mine_of s.pass) → IsFeeding s.pass → seen_by s.pass ≡ history → IsBegun link ended history b.source.value b.dialer.value
+    → s.source ≡ Some b.source.value → s.dialer ≡ b.dialer.value → s.read ≡ b.read → b.read ≤ read_max → length s.buf.items ≡ piece_max → FeedsFor link left given faults asked ended dialer_faults b s
+first_reader {I} {O} {C} {D} link left given faults asked ended dialer_faults b s history address home outside lies feeding seen o source dialer read small room = record {
   home = home;
   outside = outside;
   lies = lies;
@@ -218,9 +233,10 @@ first_reader {I} {O} {C} {D} link left given faults ended dialer_faults b s hist
       subst (λ (x : Option I). KeepsSourceOf link left given faults (is_some (tries_of (seen_by s.pass))) (is_some (ended b.dialer.value)) shared x s.read (present (seen_by s.pass))) (sym source)
       (subst (λ (h : List Entry). KeepsSourceOf link left given faults (is_some (tries_of h)) (is_some (ended b.dialer.value)) shared (Some b.source.value) s.read (present h)) (sym seen) (source_begun link left given faults ended (is_some (ended b.dialer.value)) history b.source.value b.dialer.value s.read o)));
   dialer = (let shared = shared_giving left given faults b.source.value in
-      subst (λ (d : D). KeepsDialer ended dialer_faults shared b.dialer.value d (present (seen_by s.pass))) (sym dialer)
-      (subst (λ (h : List Entry). KeepsDialer ended dialer_faults shared b.dialer.value b.dialer.value (present h)) (sym seen) (dialer_begun link ended dialer_faults shared history b.source.value b.dialer.value o)));
+      subst (λ (d : D). KeepsDialer asked ended dialer_faults (address_of b) shared b.dialer.value d (present (seen_by s.pass))) (sym dialer)
+      (subst (λ (h : List Entry). KeepsDialer asked ended dialer_faults (address_of b) shared b.dialer.value b.dialer.value (present h)) (sym seen) (dialer_begun link asked ended dialer_faults (address_of b) shared history b.source.value b.dialer.value o)));
   open_link = λ some. o.link_made (sym (ap (λ (h : List Entry). is_some (tries_of h)) (seen ∙ o.history_is)) ∙ some);
+  address = address;
   read = (let len : length (bytes_fed (seen_by s.pass)) ≡ 0 = ap (λ (l : List Entry). length (bytes_fed l)) (seen ∙ o.history_is) in omega (arith, read, len));
   within = omega (arith, read, small);
   room = room;

@@ -12,7 +12,7 @@ use Rattle.nr_turnstile.specs.Turns.{Has, pass_of}
 use Rattle.nr_shared.specs.declared.entry.Entry.{Entry}
 use Rattle.nr_shared.specs.declared.entry.InitialState.{InitialState}
 use Rattle.nr_shared.specs.declared.requester_with_sink.RequesterWithSink.{RequesterWithSink}
-use Rattle.nr_shared.specs.Histories.{ClosesCalls, FeedsInOrder, IsCallAt, closes_of, initial_of, is_feeding, last_feeding, rejoins}
+use Rattle.nr_shared.specs.Histories.{ClosesCalls, FeedsInOrder, IsCallAt, IsUnclosed, closes_of, initial_of, is_feeding, last_feeding, place_of, rejoins}
 use Rattle.nr_shared.specs.LinkRuns.{OnEachLink}
 use Rattle.nr_shared.specs.LinkStanding.{KeepsLinkLaw}
 use Rattle.nr_shared.specs.Adding.{Adds}
@@ -51,7 +51,8 @@ pub record IsCaller {O C : Type 0} (p : Pass (RequesterWithSink O C) Entry) : Ty
 -- ran out. A lost link is left as often as it may be, at most.
 -- Output is written before more is fed, and in full. Bytes move until an end, and are fed only while a call is outstanding. Each entry that feeds
 -- closes the one before it: so they are all of the one pass that feeds.
--- The history begins with the initial state. An entry by which a call ends closes the place of a call of that xid.
+-- The history begins with the initial state. An entry by which a call ends closes the place of a call of that xid. A call that nothing closed is the last one of
+-- its xid.
 pub record KeepsLaw (history : List Entry) : Type 0 where
   pub initial : InitialState
   pub is_initial : initial_of history ≡ Some initial
@@ -63,6 +64,7 @@ pub record KeepsLaw (history : List Entry) : Type 0 where
   pub may_follow : EntriesMayFollow history
   pub in_order : FeedsInOrder history
   pub closes_calls : ClosesCalls history
+  pub last_open : (xid k : ℕ) (call : Call) → IsCallAt history xid k call → IsUnclosed history k → place_of xid history ≡ Some k
 
 -- A call of this xid stands at a place of the pass's own, which is open. All places of the pass lie in what it has seen.
 pub record HasOpenCall {O C : Type 0} (p : Pass (RequesterWithSink O C) Entry) (xid : ℕ) : Type 0 where

@@ -1,8 +1,10 @@
 -- The source of a link, and the pass that feeds what it gives.
 use Rattle.std.specs.Prelude.{◌≡◌, ◌≢◌, ⊤, ℕ, ◌+◌, ◌≤◌, Bool, true, false, List, [], ◌∷◌, length, Option, None, Some, is_some}
 use Rattle.std.specs.Io.KnownBytes.{Appends, IsAtEnd}
+use Rattle.std.specs.String.{string_bytes}
 use Rattle.nr_outside.specs.Content.{HandsOut}
 use Rattle.nr_outside.specs.Faults.{Rises}
+use Rattle.nr_links.specs.Asked.{Asks}
 use Rattle.nr_links.specs.Limits.{piece_max, read_max}
 use Rattle.nr_links.specs.Links.{EndsLink, HasOpenLink, IsNewLink, IsToldNew, LinkLog, MakesLink, ended_link}
 use Rattle.nr_turnstile.specs.Rule.{Lies}
@@ -88,10 +90,22 @@ abbrev pub HungUp : (told : Bool) → InitialGiving → (sink : Option InitialSi
 HungUp told shared sink [] before after = after ≡ before
 HungUp told shared sink (p ∷ past) before after = (found : Option LinkLog) × (ended : Option LinkLog) × HungUp told shared p.sink past before found × LinkEndedIf told shared past p p.sink found ended × LinkMade sink ended after
 
--- Each link that was left was hung up, and fewer were hung up than made while there is a link. The dialer's count rose if and only if the last dial failed.
-pub record KeepsDialer {D : Type 0} (ended : D → Option LinkLog) (faults : D → ℕ) (giving : InitialGiving) (shared dialer : D) (present : PresentLink) : Type 0 where
+-- a link was asked for by this address, if there is a sink of it
+abbrev pub AskedIf : Option InitialSink → (addr : List ℕ) → (before after : Option (List (List ℕ))) → Type 0
+AskedIf (Some sink) addr before after = Asks before after addr
+AskedIf None addr before after = after ≡ before
+
+-- Each link that followed on one that was left was asked for by this address, unless its dial failed; and no others were. `sink` is that of the link at hand.
+abbrev pub AskedEach : (addr : List ℕ) → (sink : Option InitialSink) → List PastLink → (before after : Option (List (List ℕ))) → Type 0
+AskedEach addr sink [] before after = after ≡ before
+AskedEach addr sink (p ∷ past) before after = (between : Option (List (List ℕ))) × AskedEach addr p.sink past before between × AskedIf sink addr between after
+
+-- Each link that was left was hung up, and fewer were hung up than made while there is a link. Each link that was made since was asked for by this address. The
+-- dialer's count rose if and only if the last dial failed.
+pub record KeepsDialer {D : Type 0} (asked : D → Option (List (List ℕ))) (ended : D → Option LinkLog) (faults : D → ℕ) (addr : List ℕ) (giving : InitialGiving) (shared dialer : D) (present : PresentLink) : Type 0 where
   pub open_link : is_some present.sink ≡ true → HasOpenLink (ended shared) → HasOpenLink (ended dialer)
   pub hung_up : HungUp (is_some (ended shared)) giving present.sink present.left (ended shared) (ended dialer)
+  pub dialled : AskedEach addr present.sink present.left (asked shared) (asked dialer)
   pub counted : present.stopped ≢ Some causes.DialFault → faults dialer ≡ faults shared
   pub failed : present.stopped ≡ Some causes.DialFault → Rises (faults shared) (faults dialer)
 
@@ -100,19 +114,24 @@ pub record KeepsDialer {D : Type 0} (ended : D → Option LinkLog) (faults : D �
 abbrev pub shared_giving : {I : Type 0} → (left given : I → Option (List ℕ)) → (faults : I → ℕ) → I → InitialGiving
 shared_giving left given faults source = record { left = left source; given = given source; faults = faults source }
 
--- What the source gives is fed by this pass alone: the last entry that feeds is its own and open.
-pub record FeedsFor {I O C D : Type 0} (link : I → ℕ) (left given : I → Option (List ℕ)) (faults : I → ℕ) (ended : D → Option LinkLog) (dialer_faults : D → ℕ) (b : InitialSource I O C D) (s : SourceReader I O C D) : Type 0 where
+-- the address that is dialled
+abbrev pub address_of : {I O C D : Type 0} → InitialSource I O C D → List ℕ
+address_of b = string_bytes b.addr.value
+
+-- What the source gives is fed by this pass alone: the last entry that feeds is its own and open. The address stays.
+pub record FeedsFor {I O C D : Type 0} (link : I → ℕ) (left given : I → Option (List ℕ)) (faults : I → ℕ) (asked : D → Option (List (List ℕ))) (ended : D → Option LinkLog) (dialer_faults : D → ℕ) (b : InitialSource I O C D) (s : SourceReader I O C D) : Type 0 where
   pub home : home_of s.pass ≡ home_of b.pass.value
   pub outside : IsOutside s.pass
   pub lies : Lies (seen_by s.pass) (mine_of s.pass)
   pub feeding : IsFeeding s.pass
   pub source : KeepsSourceOf link left given faults (is_some (tries_of (seen_by s.pass))) (is_some (ended b.dialer.value)) (shared_giving left given faults b.source.value) s.source s.read (present (seen_by s.pass))
-  pub dialer : KeepsDialer ended dialer_faults (shared_giving left given faults b.source.value) b.dialer.value s.dialer (present (seen_by s.pass))
+  pub dialer : KeepsDialer asked ended dialer_faults (address_of b) (shared_giving left given faults b.source.value) b.dialer.value s.dialer (present (seen_by s.pass))
   pub open_link : is_some (tries_of (seen_by s.pass)) ≡ true → HasOpenLink (ended b.dialer.value)
+  pub address : string_bytes s.addr ≡ address_of b
   pub read : s.read ≡ b.read + length (bytes_fed (seen_by s.pass))
   pub within : s.read ≤ read_max
   pub room : length s.buf.items ≡ piece_max
 
--- it has one entry: the source and the dialer when they were shared, and the pass that fed first
-abbrev pub Feeds : {I O C D : Type 0} → (I → ℕ) → (I → Option (List ℕ)) → (I → Option (List ℕ)) → (I → ℕ) → (D → Option LinkLog) → (D → ℕ) → SourceReader I O C D → List (InitialSource I O C D) → Type 0
-Feeds {I} {O} {C} {D} link left given faults ended dialer_faults s history = (b : InitialSource I O C D) × (history ≡ b ∷ []) × FeedsFor link left given faults ended dialer_faults b s
+-- it has one entry: the source and the dialer when they were shared, the address, and the pass that fed first
+abbrev pub Feeds : {I O C D : Type 0} → (I → ℕ) → (I → Option (List ℕ)) → (I → Option (List ℕ)) → (I → ℕ) → (D → Option (List (List ℕ))) → (D → Option LinkLog) → (D → ℕ) → SourceReader I O C D → List (InitialSource I O C D) → Type 0
+Feeds {I} {O} {C} {D} link left given faults asked ended dialer_faults s history = (b : InitialSource I O C D) × (history ≡ b ∷ []) × FeedsFor link left given faults asked ended dialer_faults b s

@@ -45,9 +45,10 @@ GivesLink source_link left given source_faults sink_link taken sink_faults numbe
 -- were open are so still. Each call of it is one that callers may make, and is closed once at most, under its xid. The requester represents it, and has
 -- each call whose place isn't closed. There is a link unless the last dial failed: it is the one that was shared, or the last that was dialled; its sink took the bytes that the
 -- history says were written over it, and its source gave those that were fed, with fault counts as the history says. With the `read_before` bytes that were read before, those fed over all
--- links are at most the maximum. The dialer hung up each link that was left, and its count rose if and only if a dial failed.
-pub record GivesBack {I O D : Type 0} (source_link : I → ℕ) (left given : I → Option (List ℕ)) (source_faults : I → ℕ) (sink_link : O → ℕ) (taken : O → Option (List ℕ)) (sink_faults : O → ℕ) (ended : D → Option LinkLog) (dialer_faults : D → ℕ)
-    (allows : Call → Form → Type 0) (seen : List Entry) (mine : List ℕ) (first : I) (first_dialer : D) (read_before : ℕ) (r : RequesterSide) (link : Option (I × O)) (dialer : D) : Type 0 where
+-- links are at most the maximum. The dialer hung up each link that was left, and dialled this address for each that followed; its count rose if and only if a dial
+-- failed.
+pub record GivesBack {I O D : Type 0} (source_link : I → ℕ) (left given : I → Option (List ℕ)) (source_faults : I → ℕ) (sink_link : O → ℕ) (taken : O → Option (List ℕ)) (sink_faults : O → ℕ) (asked : D → Option (List (List ℕ))) (ended : D → Option LinkLog) (dialer_faults : D → ℕ)
+    (allows : Call → Form → Type 0) (seen : List Entry) (mine : List ℕ) (first : I) (first_dialer : D) (addr : List ℕ) (read_before : ℕ) (r : RequesterSide) (link : Option (I × O)) (dialer : D) : Type 0 where
   pub history : List Entry
   pub begins : Begins seen history
   pub lies : Lies history mine
@@ -67,4 +68,4 @@ pub record GivesBack {I O D : Type 0} (source_link : I → ℕ) (left given : I 
   pub fed : fed_bytes r ≤ fed_bytes initial.requester + length (bytes_fed history)
   pub read : read_before + length (bytes_fed history) ≤ read_max
   pub link_is : GivesLink source_link left given source_faults sink_link taken sink_faults (is_some initial.tries) (is_some (ended first_dialer)) (shared_giving left given source_faults first) (read_before + length (bytes_fed history)) link (sink_of history) history
-  pub dialer_is : KeepsDialer ended dialer_faults (shared_giving left given source_faults first) first_dialer dialer (present history)
+  pub dialer_is : KeepsDialer asked ended dialer_faults addr (shared_giving left given source_faults first) first_dialer dialer (present history)

@@ -1,5 +1,6 @@
 //! A dialer for a link that is never dialled again.
 
+ghost use Rattle.std.specs.Prelude.{None};
 ghost use Rattle.nr_outside.specs.Faults.{last_count};
 
 use nr_links::{Dialer, LinkSink, LinkSource};

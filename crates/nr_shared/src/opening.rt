@@ -1,6 +1,7 @@
 //! A requester is shared, and given back.
 
-ghost use Rattle.std.specs.Prelude.{◌≡◌, ◌≢◌, ◌<◌, ◌≤◌, [], ◌∷◌, List, None, Some, IfOk, IfErr};
+ghost use Rattle.std.specs.Prelude.{◌≡◌, ◌≢◌, ◌<◌, ◌≤◌, [], ◌∷◌, List, None, Some, IfSome, IfOk, IfErr};
+ghost use Rattle.std.specs.String.{string_bytes};
 ghost use Rattle.nr_outside.specs.Faults.{last_count};
 ghost use Rattle.nr_link.specs.declared.end.End.TheVariants as ends;
 ghost use Rattle.nr_links.specs.Limits.{read_max};
@@ -8,9 +9,10 @@ ghost use Rattle.nr_requester.specs.Fed.{fed_bytes};
 ghost use Rattle.nr_turnstile.specs.Passes.{Rests, home_of, id_of, seen_by, mine_of};
 ghost use Rattle.nr_shared.specs.declared.source_reader.InitialSource.{InitialSource};
 ghost use Rattle.nr_shared.specs.Callers.{IsCaller};
-ghost use Rattle.nr_shared.specs.Feeding.{FeedsFor};
+ghost use Rattle.nr_shared.specs.Feeding.{FeedsFor, address_of};
 ghost use Rattle.nr_shared.specs.Opening.{GivesBack, IsInitialHistory};
-ghost use Rattle.nr_shared.specs.Numbered.{IsBegun, IsNotShared, NumberedOpened, NumberedRefused};
+ghost use Rattle.nr_links.specs.Links.{HasOpenLink};
+ghost use Rattle.nr_shared.specs.Numbered.{HangsUpBack, IsBegun, IsNotShared, NumberedOpened, NumberedRefused};
 ghost use Rattle.nr_shared.specs.Standing.{Stands, bytes_before};
 ghost use Rattle.nr_shared.specs.private.Reading.{both};
 ghost use Rattle.nr_shared.specs.declared.no_dialer.NoDialer.{NoDialer};
@@ -80,6 +82,7 @@ fn share_reader<
     reader: SourceReader<I, O, C, D>,
     _source: &Snapshot<I>,
     _dialer: &Snapshot<D>,
+    _addr: &Snapshot<String>,
     _pass: &Snapshot<nr_turnstile::Pass<RequesterWithSink<O, C>>>,
 ) -> Result<
     (
@@ -88,10 +91,10 @@ fn share_reader<
     ),
     SourceReader<I, O, C, D>,
 >
-    requires source_history { record { source = _source.now; dialer = _dialer.now; pass = _pass.now; read = reader.read } ∷ [] ≡ K.source_history }
-    requires feeds { FeedsFor I.link I.left I.given I.faults D.ended D.faults (record { source = _source.now; dialer = _dialer.now; pass = _pass.now; read = reader.read }) reader }
-    ensures ok { IfOk result (λ t. Rests t.0 t.1 × (seen_by t.1 ≡ record { source = _source.now; dialer = _dialer.now; pass = _pass.now; read = reader.read } ∷ [])) }
-    ensures err { IfErr result (FeedsFor I.link I.left I.given I.faults D.ended D.faults (record { source = _source.now; dialer = _dialer.now; pass = _pass.now; read = reader.read })) }
+    requires source_history { record { source = _source.now; dialer = _dialer.now; addr = _addr.now; pass = _pass.now; read = reader.read } ∷ [] ≡ K.source_history }
+    requires feeds { FeedsFor I.link I.left I.given I.faults D.asked D.ended D.faults (record { source = _source.now; dialer = _dialer.now; addr = _addr.now; pass = _pass.now; read = reader.read }) reader }
+    ensures ok { IfOk result (λ t. Rests t.0 t.1 × (seen_by t.1 ≡ record { source = _source.now; dialer = _dialer.now; addr = _addr.now; pass = _pass.now; read = reader.read } ∷ [])) }
+    ensures err { IfErr result (FeedsFor I.link I.left I.given I.faults D.asked D.ended D.faults (record { source = _source.now; dialer = _dialer.now; addr = _addr.now; pass = _pass.now; read = reader.read })) }
 {
     match Turnstile::new_or_value::<SourceHistoryOf<K>>(alloc, reader) {
         Ok(pair) => Ok(pair),
@@ -114,8 +117,8 @@ fn take_back<
 ) -> (Requester, Option<(I, O)>, D)
     requires rests { Rests main caller }
     requires caller { IsCaller caller }
-    requires feeds { (b : InitialSource I O C D) × (FeedsFor I.link I.left I.given I.faults D.ended D.faults b reader × (home_of b.pass.value ≡ id_of main)) }
-    ensures { (b : InitialSource I O C D) → FeedsFor I.link I.left I.given I.faults D.ended D.faults b reader → GivesBack I.link I.left I.given I.faults O.link O.taken O.faults D.ended D.faults C.allows (seen_by caller) (mine_of caller) b.source.value b.dialer.value b.read result.0 result.1 result.2 }
+    requires feeds { (b : InitialSource I O C D) × (FeedsFor I.link I.left I.given I.faults D.asked D.ended D.faults b reader × (home_of b.pass.value ≡ id_of main)) }
+    ensures { (b : InitialSource I O C D) → FeedsFor I.link I.left I.given I.faults D.asked D.ended D.faults b reader → GivesBack I.link I.left I.given I.faults O.link O.taken O.faults D.asked D.ended D.faults C.allows (seen_by caller) (mine_of caller) b.source.value b.dialer.value (address_of b) b.read result.0 result.1 result.2 }
 {
     let SourceReader {
         source,
@@ -138,7 +141,8 @@ fn both_halves<I: Drop, O: Drop>(source: Option<I>, sink: Option<O>) -> Option<(
 {
     match (source, sink) {
         (Some(source), Some(sink)) => Some((source, sink)),
-        _ => None,
+        (None, _) => None,
+        (Some(_), None) => None,
     }
 }
 
@@ -164,8 +168,8 @@ fn share<
     requires begun { IsBegun I.link D.ended H.history source dialer }
     ensures rests { IfOk result (λ t. SharedRests t.0 t.1) }
     ensures seen { IfOk result (λ t. (seen_by t.1.main ≡ H.history) × (mine_of t.1.main ≡ [])) }
-    ensures source { IfOk result (λ t. (b : InitialSource I O C D) × ((seen_by t.1.source ≡ b ∷ []) × ((b.source.value ≡ source) × ((b.dialer.value ≡ dialer) × (b.read ≡ read))))) }
-    ensures err { IfErr result (λ back. GivesBack I.link I.left I.given I.faults O.link O.taken O.faults D.ended D.faults C.allows H.history [] source dialer read back.0 back.1 back.2) }
+    ensures source { IfOk result (λ t. (b : InitialSource I O C D) × ((seen_by t.1.source ≡ b ∷ []) × ((b.source.value ≡ source) × ((b.dialer.value ≡ dialer) × ((address_of b ≡ string_bytes addr) × (b.read ≡ read)))))) }
+    ensures err { IfErr result (λ back. GivesBack I.link I.left I.given I.faults O.link O.taken O.faults D.asked D.ended D.faults C.allows H.history [] source dialer (string_bytes addr) read back.0 back.1 back.2) }
 {
     let Ok(buf) = vec![in alloc; 0u8; PIECE_MAX] else {
         return Err(given_back(with_sink, source, dialer));
@@ -180,6 +184,7 @@ fn share<
     let caller = main.split(&mut feeding);
     let first_source = Snapshot::of(&source);
     let first_dialer = Snapshot::of(&dialer);
+    let first_addr = Snapshot::of(&addr);
     let first = Snapshot::of(&feeding);
     let reader = SourceReader {
         source: Some(source),
@@ -189,7 +194,14 @@ fn share<
         read,
         buf,
     };
-    match share_reader::<I, O, C, D, Brand>(alloc, reader, &first_source, &first_dialer, &first) {
+    match share_reader::<I, O, C, D, Brand>(
+        alloc,
+        reader,
+        &first_source,
+        &first_dialer,
+        &first_addr,
+        &first,
+    ) {
         Ok((source, pass)) => Ok((
             SharedRequester { main, source },
             Pass {
@@ -256,17 +268,13 @@ impl<I: LinkSource + Drop, O: LinkSink + Drop, C: CallRule> SharedRequester<
         ensures rests { IfOk result (λ t. SharedRests t.0 t.1) }
         ensures seen { IfOk result (λ t. (seen_by t.1.main ≡ H.history) × (mine_of t.1.main ≡ [])) }
         ensures source { IfOk result (λ t. (b : InitialSource I O C (NoDialer I O)) × ((seen_by t.1.source ≡ b ∷ []) × ((b.source.value ≡ source) × (b.read ≡ read)))) }
-        ensures err { IfErr result (λ back. (d : NoDialer I O) × ((e : NoDialer I O) × GivesBack I.link I.left I.given I.faults O.link O.taken O.faults (λ _. None) (λ _. last_count) C.allows H.history [] source d read back.0 (Some (back.1, back.2)) e)) }
+        ensures err { IfErr result (λ back. (d : NoDialer I O) × ((e : NoDialer I O) × GivesBack I.link I.left I.given I.faults O.link O.taken O.faults (λ _. None) (λ _. None) (λ _. last_count) C.allows H.history [] source d [] read back.0 (Some (back.1, back.2)) e)) }
     {
         let with_sink = RequesterWithSink::of_parts(requester, sink, None);
+        let dialer = NoDialer::new();
+        let addr = String::new(alloc);
         match share::<H, R, I, O, C, NoDialer<I, O>>(
-            rt,
-            alloc,
-            with_sink,
-            source,
-            NoDialer::new(),
-            String::new(alloc),
-            read,
+            rt, alloc, with_sink, source, dialer, addr, read,
         ) {
             Ok(opened) => Ok(opened),
             Err((requester, link, _)) => match link {
@@ -274,6 +282,20 @@ impl<I: LinkSource + Drop, O: LinkSink + Drop, C: CallRule> SharedRequester<
                 None => unreachable!(),
             },
         }
+    }
+}
+
+/// Hangs up a link that came back, if there is one.
+fn hang_up_back<I: LinkSource, O: LinkSink, D: Dialer<Source = I, Sink = O>>(
+    link: Option<(I, O)>,
+    dialer: &mut D,
+)
+    requires { IfSome link (λ halves. (I.link halves.0 ≡ O.link halves.1) × HasOpenLink (D.ended dialer.old)) }
+    ensures { HangsUpBack I.link I.left I.given O.taken D.asked D.ended D.faults link dialer.old dialer.new }
+{
+    match link {
+        Some((source, sink)) => dialer.hang_up(source, sink),
+        None => {}
     }
 }
 
@@ -299,16 +321,14 @@ fn share_dialled<
     requires begun { IsBegun I.link D.ended (K.entry ∷ []) source dialer }
     ensures rests { IfOk result (λ t. SharedRests t.0 t.1) }
     ensures seen { IfOk result (λ t. (seen_by t.1.main ≡ K.entry ∷ []) × (mine_of t.1.main ≡ [])) }
-    ensures source { IfOk result (λ t. (b : InitialSource I O C D) × ((seen_by t.1.source ≡ b ∷ []) × ((b.source.value ≡ source) × ((b.dialer.value ≡ dialer) × (b.read ≡ 0))))) }
-    ensures err { IfErr result (NumberedRefused I.link I.left I.given I.faults O.link O.taken O.faults D.ended D.faults C.allows (K.entry ∷ []) source dialer) }
+    ensures source { IfOk result (λ t. (b : InitialSource I O C D) × ((seen_by t.1.source ≡ b ∷ []) × ((b.source.value ≡ source) × ((b.dialer.value ≡ dialer) × ((address_of b ≡ string_bytes addr) × (b.read ≡ 0)))))) }
+    ensures err { IfErr result (NumberedRefused I.link I.left I.given I.faults O.link O.taken O.faults D.asked D.ended D.faults C.allows (K.entry ∷ []) source dialer (string_bytes addr)) }
 {
     let with_sink = RequesterWithSink::of_parts(requester, sink, Some(tries));
     match share::<InitialHistory<K>, R, I, O, C, D>(rt, alloc, with_sink, source, dialer, addr, 0) {
         Ok(opened) => Ok(opened),
         Err((requester, link, mut dialer)) => {
-            if let Some((source, sink)) = link {
-                dialer.hang_up(source, sink);
-            }
+            hang_up_back(link, &mut dialer);
             Err(NotShared::Memory(requester, dialer))
         }
     }
@@ -345,9 +365,14 @@ impl<
             return Err(NotShared::Memory(requester, dialer));
         };
         match dialer.dial(addr) {
-            Ok((source, sink)) => share_dialled::<Brand, R, I, O, C, D>(
-                rt, alloc, requester, source, sink, dialer, kept, tries,
-            ),
+            Ok((source, sink)) => {
+                match share_dialled::<Brand, R, I, O, C, D>(
+                    rt, alloc, requester, source, sink, dialer, kept, tries,
+                ) {
+                    Ok(opened) => Ok(opened),
+                    Err(refused) => Err(refused),
+                }
+            }
             Err(_) => Err(NotShared::DialFault(requester, dialer)),
         }
     }
@@ -355,7 +380,7 @@ impl<
     /// Waits until both turns are free, and gives the requester, the link and the dialer back. There is no link if the last dial failed.
     pub fn close<R: Wait>(self, rt: &R, pass: Pass<I, O, C, D>) -> (Requester, Option<(I, O)>, D)
         requires { SharedRests self pass }
-        ensures { (b : InitialSource I O C D) × ((seen_by pass.source ≡ b ∷ []) × GivesBack I.link I.left I.given I.faults O.link O.taken O.faults D.ended D.faults C.allows (seen_by pass.main) (mine_of pass.main) b.source.value b.dialer.value b.read result.0 result.1 result.2) }
+        ensures { (b : InitialSource I O C D) × ((seen_by pass.source ≡ b ∷ []) × GivesBack I.link I.left I.given I.faults O.link O.taken O.faults D.asked D.ended D.faults C.allows (seen_by pass.main) (mine_of pass.main) b.source.value b.dialer.value (address_of b) b.read result.0 result.1 result.2) }
     {
         let SharedRequester { main, source } = self;
         let Pass {

@@ -56,8 +56,8 @@ impl<
         reader: &mut SourceReader<I, O, C, D>,
         ticket: Option<&Ticket>,
     )
-        requires { (b : InitialSource I O C D) × (FeedsFor I.link I.left I.given I.faults D.ended D.faults b reader.old × (home_of b.pass.value ≡ id_of self.now.main)) }
-        ensures { (b : InitialSource I O C D) → FeedsFor I.link I.left I.given I.faults D.ended D.faults b reader.old → home_of b.pass.value ≡ id_of self.now.main → FeedsFor I.link I.left I.given I.faults D.ended D.faults b reader.new }
+        requires { (b : InitialSource I O C D) × (FeedsFor I.link I.left I.given I.faults D.asked D.ended D.faults b reader.old × (home_of b.pass.value ≡ id_of self.now.main)) }
+        ensures { (b : InitialSource I O C D) → FeedsFor I.link I.left I.given I.faults D.asked D.ended D.faults b reader.old → home_of b.pass.value ≡ id_of self.now.main → FeedsFor I.link I.left I.given I.faults D.asked D.ended D.faults b reader.new }
     {
         if !self.needs_input(rt, reader, ticket) {
             return;
@@ -89,8 +89,8 @@ impl<
         reader: &mut SourceReader<I, O, C, D>,
         ticket: Option<&Ticket>,
     ) -> bool
-        requires { (b : InitialSource I O C D) × (FeedsFor I.link I.left I.given I.faults D.ended D.faults b reader.old × (home_of b.pass.value ≡ id_of self.now.main)) }
-        ensures reads { (b : InitialSource I O C D) → FeedsFor I.link I.left I.given I.faults D.ended D.faults b reader.old → home_of b.pass.value ≡ id_of self.now.main → FeedsFor I.link I.left I.given I.faults D.ended D.faults b reader.new }
+        requires { (b : InitialSource I O C D) × (FeedsFor I.link I.left I.given I.faults D.asked D.ended D.faults b reader.old × (home_of b.pass.value ≡ id_of self.now.main)) }
+        ensures reads { (b : InitialSource I O C D) → FeedsFor I.link I.left I.given I.faults D.asked D.ended D.faults b reader.old → home_of b.pass.value ≡ id_of self.now.main → FeedsFor I.link I.left I.given I.faults D.asked D.ended D.faults b reader.new }
         ensures needs_input { result ≡ true → MayFeed (seen_by reader.new.pass) }
     {
         let SourceReader {

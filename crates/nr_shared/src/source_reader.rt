@@ -32,12 +32,14 @@ pub struct SourceReader<I, O: LinkSink, C: CallRule, D> {
     pub(crate) buf: Vec<u8>,
 }
 
-/// The source and the dialer when they were shared, and the first pass that fed. No value of it is made.
+/// The source and the dialer when they were shared, the address, and the first pass that fed. No value of it is made.
 pub struct InitialSource<I, O: LinkSink, C: CallRule, D> {
     /// The source.
     pub source: Snapshot<I>,
     /// The dialer.
     pub dialer: Snapshot<D>,
+    /// The address that is dialled.
+    pub addr: Snapshot<String>,
     /// The pass.
     pub pass: Snapshot<Pass<RequesterWithSink<O, C>>>,
     /// How many bytes of it were read before.
@@ -50,7 +52,7 @@ impl<I: LinkSource, O: LinkSink, C: CallRule, D: Dialer<Source = I, Sink = O>> M
 
     type Entry = InitialSource<I, O, C, D>;
 
-    ghost stands = { Feeds I.link I.left I.given I.faults D.ended D.faults };
+    ghost stands = { Feeds I.link I.left I.given I.faults D.asked D.ended D.faults };
 
     ghost closes = { closes_none };
 
