@@ -19,7 +19,7 @@ use Rattle.nr_shared.specs.Callers.{IsCaller, IsFeeding}
 use Rattle.nr_shared.specs.Feeding.{FeedsFor, InitialGiving, KeepsSourceIf, KeepsSourceOf, address_of, shared_giving}
 use Rattle.nr_shared.specs.Histories.{FeedsInOrder, PresentLink, bytes_fed, closes_of, initial_of, is_feeding, present, sink_of, stop_of, tries_in, tries_of}
 use Rattle.nr_shared.specs.Numbered.{IsBegun}
-use Rattle.nr_shared.specs.Opening.{GivesBack, GivesLink}
+use Rattle.nr_shared.specs.Opening.{GivesBack, GivesLink, IsInitialHistory}
 use Rattle.nr_shared.specs.Standing.{KeepsSinkIf, KeepsSinkOf, RepresentsHistory, Stands}
 use Rattle.nr_shared.specs.private.Reading.{both, read_part}
 use Rattle.nr_shared.proofs.Adding.{begins_then}
@@ -29,7 +29,7 @@ use Rattle.nr_shared.proofs.FeedsOn.{dialer_same, source_same}
 use Rattle.nr_shared.proofs.Histories.{allowed_by, initial_more}
 use Rattle.nr_requester.specs.RequesterState.{RequesterSide}
 use Rattle.nr_shared.proofs.Lists.{at_after, at_begin, in_ordered, not_twice, still_first, still_ordered}
-use Rattle.nr_shared.proofs.Opened.{dialer_begun, earlier_begun, source_begun}
+use Rattle.nr_shared.proofs.Opened.{dialer_begun, earlier_begun, initial_once, source_begun}
 use Rattle.nr_shared.proofs.Resting.{seen_one}
 use Rattle.nr_shared.proofs.Told.{IsTold, tries_told}
 use Rattle.nr_reduce.specs.declared.call.Call.{Call}
@@ -204,16 +204,32 @@ link_back link left given source_faults sink_link taken sink_faults asked ended 
   by None stop = subst (λ (o : Option ℕ). IsTold o (Some causes.DialFault)) no_tries (subst (IsTold b.initial.tries) stop (tries_told b.initial b.history b.is_initial b.may_follow))
   by (Some sink) bad = bad
 
+pub never_none : {I O D : Type 0} (link : I → ℕ) (left given : I → Option (List ℕ)) (source_faults : I → ℕ) (sink_link : O → ℕ) (taken : O → Option (List ℕ)) (sink_faults : O → ℕ) (asked : D → Option (List (List ℕ))) (ended : D → Option LinkLog) (dialer_faults : D → ℕ) (allows : Call → Form → Type 0)
+    (k : RequesterSide) (sink : O) (history : List Entry) (first : I) (first_dialer : D) (addr : List ℕ) (read : ℕ) (r : RequesterSide) (halves : Option (I × O)) (dialer : D) → IsInitialHistory sink_link taken sink_faults k sink None history → halves ≡ None
+    → GivesBack link left given source_faults sink_link taken sink_faults asked ended dialer_faults allows history [] first first_dialer addr read r halves dialer → ⊥
+never_none {I} {O} {D} link left given source_faults sink_link taken sink_faults asked ended dialer_faults allows k sink history first first_dialer addr read r halves dialer o none b =
+    let (c, (is, tries)) = initial_once sink_link taken sink_faults k sink None history o in
+    link_back link left given source_faults sink_link taken sink_faults asked ended dialer_faults allows history [] first first_dialer addr read r dialer tries c is (subst (λ (x : Option (I × O)). GivesBack link left given source_faults sink_link taken sink_faults asked ended dialer_faults allows history [] first first_dialer addr read r x dialer) none b)
+
+-- as two halves, of a requester without an address
+pub halves_back : {I O D : Type 0} (link : I → ℕ) (left given : I → Option (List ℕ)) (source_faults : I → ℕ) (sink_link : O → ℕ) (taken : O → Option (List ℕ)) (sink_faults : O → ℕ) (asked : D → Option (List (List ℕ))) (ended : D → Option LinkLog) (dialer_faults : D → ℕ) (allows : Call → Form → Type 0)
+    (history : List Entry) (first : I) (first_dialer : D) (addr : List ℕ) (read : ℕ) (r : RequesterSide) (halves : Option (I × O)) (source : I) (sink : O) (dialer : D) → halves ≡ Some (source, sink) → addr ≡ []
+    → GivesBack link left given source_faults sink_link taken sink_faults asked ended dialer_faults allows history [] first first_dialer addr read r halves dialer
+    → (d : D) × ((e : D) × GivesBack link left given source_faults sink_link taken sink_faults asked ended dialer_faults allows history [] first d [] read r (Some (source, sink)) e)
+halves_back {I} {O} {D} link left given source_faults sink_link taken sink_faults asked ended dialer_faults allows history first first_dialer addr read r halves source sink dialer both_are none b =
+    (first_dialer, (dialer, subst (λ (x : Option (I × O)). GivesBack link left given source_faults sink_link taken sink_faults asked ended dialer_faults allows history [] first first_dialer [] read r x dialer) both_are
+    (subst (λ (a : List ℕ). GivesBack link left given source_faults sink_link taken sink_faults asked ended dialer_faults allows history [] first first_dialer a read r halves dialer) none b)))
+
 -- it can be hung up, if it may be dialled again
 pub back_open : {I O D : Type 0} (link : I → ℕ) (left given : I → Option (List ℕ)) (source_faults : I → ℕ) (sink_link : O → ℕ) (taken : O → Option (List ℕ)) (sink_faults : O → ℕ) (asked : D → Option (List (List ℕ))) (ended : D → Option LinkLog) (dialer_faults : D → ℕ) (allows : Call → Form → Type 0)
     (history : List Entry) (mine : List ℕ) (first : I) (first_dialer : D) (addr : List ℕ) (read : ℕ) (r : RequesterSide) (source : I) (sink : O) (dialer : D) → is_some (tries_of history) ≡ true → (c : InitialState) → initial_of history ≡ Some c → HasOpenLink (ended first_dialer)
     → GivesBack link left given source_faults sink_link taken sink_faults asked ended dialer_faults allows history mine first first_dialer addr read r (Some (source, sink)) dialer → (link source ≡ sink_link sink) × HasOpenLink (ended dialer)
-back_open link left given source_faults sink_link taken sink_faults asked ended dialer_faults allows history mine first first_dialer addr read r source sink dialer some c is opened b = by (sink_of b.history) refl b.link_is where
+back_open link left given source_faults sink_link taken sink_faults asked ended dialer_faults allows history mine first first_dialer addr read r source sink dialer numbered c is opened b = by (sink_of b.history) refl b.link_is where
   same : initial_of b.history ≡ Some c
   same = ap (λ (l : List Entry). initial_of l) b.begins.1 ∙ initial_more history b.begins.0 c is
 
   tries : is_some b.initial.tries ≡ true
-  tries = ap (λ (o : Option InitialState). is_some (tries_in o)) (sym b.is_initial ∙ (same ∙ sym is)) ∙ some
+  tries = ap (λ (o : Option InitialState). is_some (tries_in o)) (sym b.is_initial ∙ (same ∙ sym is)) ∙ numbered
 
   by : (i : Option InitialSink) → sink_of b.history ≡ i → GivesLink link left given source_faults sink_link taken sink_faults (is_some b.initial.tries) (is_some (ended first_dialer)) (shared_giving left given source_faults first) (read + length (bytes_fed b.history)) (Some (source, sink)) i b.history
       → (link source ≡ sink_link sink) × HasOpenLink (ended dialer)

@@ -59,7 +59,7 @@ returns-in_default-clause-err g c = let b = c.given_back.ensures in
     c.requires.read c.requires.stands c.requires.begun b.requester b.link b.dialer
 
 pub returns-in-Err-clause-err : goal.returns-in-Err-clause-err
-returns-in-Err-clause-err g c = let b = c.given_back.ensures in let same = c.in-Err.ensures.err in
+returns-in-Err-clause-err g c = let b = c.given_back-in-Err.ensures in let same = c.in-Err.ensures.err in
     unshared_as g.I.LinkSource.link g.I.Source.left g.I.Source.given g.I.Source.faults g.O.LinkSink.link g.O.Sink.taken g.O.Sink.faults g.D.Dialer.asked g.D.Dialer.ended g.D.Dialer.faults g.C.CallRule.allows c.args.with_sink g.H.OpeningHistory.history c.args.source c.args.dialer (string_bytes c.args.addr) c.args.read _ _ _
     c.requires.read c.requires.stands c.requires.begun
     (b.requester ∙ ap (λ (m : RequesterWithSink g.row.O.Denot g.row.C.Denot). m.requester) same)

@@ -1,5 +1,4 @@
-use Rattle.std.proofs.Common.{ℕ, List, inl, refl, sym, subst, ◌∙◌}
-use Rattle.nr_shared.specs.Numbered.{NumberedRefused}
+use Rattle.std.proofs.Common.{inl, refl, sym, ◌∙◌}
 use Rattle.nr_shared.proofs.Dialled.{begun_dialled, initial_dialled, not_dialled, opened_dialled}
 use Rattle.nr_shared.proofs.shared.SharedRequester.new_numbered.Goals as goal
 
@@ -10,8 +9,8 @@ pub share_dialled-requires-clause-begun : goal.share_dialled-requires-clause-beg
 share_dialled-requires-clause-begun g c = let d = c.in-Ok-dial.ensures in
     begun_dialled g.I.LinkSource.link g.O.LinkSink.link g.O.Sink.taken g.O.Sink.faults g.D.Dialer.ended c.args.requester _ _ _ c.args.tries (d.numbered.source ∙ sym d.numbered.sink) d.made.1
 
-pub returns-in-Ok-in-Ok-clause-opened : goal.returns-in-Ok-in-Ok-clause-opened
-returns-in-Ok-in-Ok-clause-opened g c = let d = c.in-Ok-dial.ensures in let s = c.in-Ok-share_dialled.ensures in let (b, (at, (source, (dialer, (addr, unread))))) = s.source in
+pub returns-in-Ok-share_dialled-clause-opened : goal.returns-in-Ok-share_dialled-clause-opened
+returns-in-Ok-share_dialled-clause-opened g c = let d = c.in-Ok-dial.ensures in let s = c.in-Ok-share_dialled.ensures in let (b, (at, (source, (dialer, (addr, unread))))) = s.source in
     opened_dialled g.I.LinkSource.link g.I.Source.left g.I.Source.given g.I.Source.faults g.O.LinkSink.link g.O.Sink.taken g.O.Sink.faults g.D.Dialer.asked g.D.Dialer.ended g.D.Dialer.faults
     c.args.requester c.args.dialer _ c.args.addr.now c.args.tries _ _ _ b s.seen.0 s.seen.1 at source dialer (addr ∙ c.in-Ok.ensures.ok) unread
     (d.numbered.source ∙ sym d.numbered.sink) d.fresh d.told d.asked d.made d.counted
@@ -19,8 +18,7 @@ returns-in-Ok-in-Ok-clause-opened g c = let d = c.in-Ok-dial.ensures in let s = 
 pub returns-in_default-clause-err : goal.returns-in_default-clause-err
 returns-in_default-clause-err g c = inl (refl, refl)
 
-pub returns-in-Ok-in-Err-clause-err : goal.returns-in-Ok-in-Err-clause-err
-returns-in-Ok-in-Err-clause-err g c = let d = c.in-Ok-dial.ensures in
+pub returns-in-Err-share_dialled-clause-err : goal.returns-in-Err-share_dialled-clause-err
+returns-in-Err-share_dialled-clause-err g c = let d = c.in-Ok-dial.ensures in
     not_dialled g.I.LinkSource.link g.I.Source.left g.I.Source.given g.I.Source.faults g.O.LinkSink.link g.O.Sink.taken g.O.Sink.faults g.D.Dialer.asked g.D.Dialer.ended g.D.Dialer.faults g.C.CallRule.allows
-    c.args.requester c.args.dialer _ c.args.addr.now c.args.tries _ _ _ d.fresh d.asked d.made d.counted
-    (subst (λ (a : List ℕ). NumberedRefused g.I.LinkSource.link g.I.Source.left g.I.Source.given g.I.Source.faults g.O.LinkSink.link g.O.Sink.taken g.O.Sink.faults g.D.Dialer.asked g.D.Dialer.ended g.D.Dialer.faults g.C.CallRule.allows _ _ _ a _) c.in-Ok.ensures.ok c.in-Err-share_dialled.ensures.err)
+    c.args.requester c.args.dialer _ c.args.addr.now _ c.args.tries _ _ _ c.in-Ok.ensures.ok d.fresh d.asked d.made d.counted c.in-Err-share_dialled.ensures.err
