@@ -25,7 +25,7 @@ use Rattle.nr_shared.specs.private.Reading.{both, read_part}
 use Rattle.nr_shared.proofs.Adding.{begins_then}
 use Rattle.nr_shared.proofs.Alone.{AreQuiet, bytes_quiet, part_quiet}
 use Rattle.nr_shared.proofs.Chains.{no_link_after}
-use Rattle.nr_shared.proofs.FeedsOn.{dialer_same, source_same}
+use Rattle.nr_shared.proofs.Kept.{dialer_same, source_same}
 use Rattle.nr_shared.proofs.Histories.{allowed_by, initial_more}
 use Rattle.nr_requester.specs.RequesterState.{RequesterSide}
 use Rattle.nr_shared.proofs.Lists.{at_after, at_begin, in_ordered, not_twice, still_first, still_ordered}
@@ -216,9 +216,14 @@ pub halves_back : {I O D : Type 0} (link : I → ℕ) (left given : I → Option
     (history : List Entry) (first : I) (first_dialer : D) (addr : List ℕ) (read : ℕ) (r : RequesterSide) (halves : Option (I × O)) (source : I) (sink : O) (dialer : D) → halves ≡ Some (source, sink) → addr ≡ []
     → GivesBack link left given source_faults sink_link taken sink_faults asked ended dialer_faults allows history [] first first_dialer addr read r halves dialer
     → (d : D) × ((e : D) × GivesBack link left given source_faults sink_link taken sink_faults asked ended dialer_faults allows history [] first d [] read r (Some (source, sink)) e)
-halves_back {I} {O} {D} link left given source_faults sink_link taken sink_faults asked ended dialer_faults allows history first first_dialer addr read r halves source sink dialer both_are none b =
-    (first_dialer, (dialer, subst (λ (x : Option (I × O)). GivesBack link left given source_faults sink_link taken sink_faults asked ended dialer_faults allows history [] first first_dialer [] read r x dialer) both_are
-    (subst (λ (a : List ℕ). GivesBack link left given source_faults sink_link taken sink_faults asked ended dialer_faults allows history [] first first_dialer a read r halves dialer) none b)))
+halves_back {I} {O} {D} link left given source_faults sink_link taken sink_faults asked ended dialer_faults allows history first first_dialer addr read r halves source sink dialer both_are none b = (
+  first_dialer,
+  (
+    dialer,
+    subst (λ (x : Option (I × O)). GivesBack link left given source_faults sink_link taken sink_faults asked ended dialer_faults allows history [] first first_dialer [] read r x dialer) both_are
+        (subst (λ (a : List ℕ). GivesBack link left given source_faults sink_link taken sink_faults asked ended dialer_faults allows history [] first first_dialer a read r halves dialer) none b),
+  ),
+)
 
 -- it can be hung up, if it may be dialled again
 pub back_open : {I O D : Type 0} (link : I → ℕ) (left given : I → Option (List ℕ)) (source_faults : I → ℕ) (sink_link : O → ℕ) (taken : O → Option (List ℕ)) (sink_faults : O → ℕ) (asked : D → Option (List (List ℕ))) (ended : D → Option LinkLog) (dialer_faults : D → ℕ) (allows : Call → Form → Type 0)

@@ -62,16 +62,18 @@ module _ {I O D : Type 0} (link : I → ℕ) (left given : I → Option (List �
       (begun.link_made (ap (λ (c : Option InitialState). is_some (tries_in c)) (ap (λ (h : List Entry). initial_of h) (sym begun.history_is ∙ o.history_is)) ∙ ap (λ (t : Option ℕ). is_some t) o.tries_are)) back
 
   -- memory ran out after the dial
-  not_shared_at : (r : RequesterSide) (dialer dialled : D) (addr : List ℕ) (tries : ℕ) (source : I) (sink : O) (why : NotShared D) → IsNewLink (given source) (taken sink) (source_faults source) (sink_faults sink) → Asks (asked dialer) (asked dialled) addr
+  not_shared_at : (r : RequesterSide) (dialer dialled : D) (addr : List ℕ) (tries : ℕ) (source : I) (sink : O) (why : NotShared D) → link source ≡ sink_link sink → IsNewLink (given source) (taken sink) (source_faults source) (sink_faults sink) → IsTold (ended dialled) (given source) (left source) (taken sink) → Asks (asked dialer) (asked dialled) addr
       → MakesLink (ended dialer) (ended dialled) → dialer_faults dialled ≡ dialer_faults dialer
       → NumberedRefused link left given source_faults sink_link taken sink_faults asked ended dialer_faults allows (entries.Initial (dialled_state sink_link taken sink_faults r sink tries) ∷ []) source dialled addr why
       → IsNotShared link left given source_faults sink_link taken sink_faults asked ended dialer_faults allows r dialer addr tries why
-  not_shared_at r dialer dialled addr tries source sink (not_shared.DialFault r' dialer') new asks made counted refused = absurd refused
-  not_shared_at r dialer dialled addr tries source sink (not_shared.Memory r' dialer') new asks made counted refused = inr (record {
+  not_shared_at r dialer dialled addr tries source sink (not_shared.DialFault r' dialer') same new told asks made counted refused = absurd refused
+  not_shared_at r dialer dialled addr tries source sink (not_shared.Memory r' dialer') same new told asks made counted refused = inr (record {
     sink = dialled_sink sink_link taken sink_faults sink;
     source = source;
     dialled = dialled;
+    same = same;
     new = new;
+    told = told;
     asks = asks;
     made = made;
     counted = counted;
@@ -79,13 +81,13 @@ module _ {I O D : Type 0} (link : I → ℕ) (left given : I → Option (List �
   })
 
   -- `kept` is the copy of the address
-  pub not_dialled : (r : RequesterSide) (dialer dialled : D) (addr kept : List ℕ) (tries : ℕ) (source : I) (sink : O) (why : NotShared D) → kept ≡ addr → IsNewLink (given source) (taken sink) (source_faults source) (sink_faults sink) → Asks (asked dialer) (asked dialled) addr
+  pub not_dialled : (r : RequesterSide) (dialer dialled : D) (addr kept : List ℕ) (tries : ℕ) (source : I) (sink : O) (why : NotShared D) → kept ≡ addr → link source ≡ sink_link sink → IsNewLink (given source) (taken sink) (source_faults source) (sink_faults sink) → IsTold (ended dialled) (given source) (left source) (taken sink) → Asks (asked dialer) (asked dialled) addr
       → MakesLink (ended dialer) (ended dialled) → dialer_faults dialled ≡ dialer_faults dialer
       → NumberedRefused link left given source_faults sink_link taken sink_faults asked ended dialer_faults allows (entries.Initial (dialled_state sink_link taken sink_faults r sink tries) ∷ []) source dialled kept why
       → IsNotShared link left given source_faults sink_link taken sink_faults asked ended dialer_faults allows r dialer addr tries why
-  not_dialled r dialer dialled addr kept tries source sink why same new asks made counted refused =
-      not_shared_at r dialer dialled addr tries source sink why new asks made counted
-      (subst (λ (a : List ℕ). NumberedRefused link left given source_faults sink_link taken sink_faults asked ended dialer_faults allows (entries.Initial (dialled_state sink_link taken sink_faults r sink tries) ∷ []) source dialled a why) same refused)
+  not_dialled r dialer dialled addr kept tries source sink why copied same new told asks made counted refused =
+      not_shared_at r dialer dialled addr tries source sink why same new told asks made counted
+      (subst (λ (a : List ℕ). NumberedRefused link left given source_faults sink_link taken sink_faults asked ended dialer_faults allows (entries.Initial (dialled_state sink_link taken sink_faults r sink tries) ∷ []) source dialled a why) copied refused)
 
 -- it is shared
 pub opened_dialled : {I O C D : Type 0} (link : I → ℕ) (left given : I → Option (List ℕ)) (source_faults : I → ℕ) (sink_link : O → ℕ) (taken : O → Option (List ℕ)) (sink_faults : O → ℕ) (asked : D → Option (List (List ℕ))) (ended : D → Option LinkLog) (dialer_faults : D → ℕ)

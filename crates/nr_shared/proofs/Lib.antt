@@ -29,4 +29,5 @@ pub mod GivingUp
 pub mod Opened
 pub mod Closed
 pub mod Dialled
+pub mod Kept
 pub mod FeedsOn

@@ -72,7 +72,9 @@ pub record GivesUpDialled {I O D : Type 0} (source_link : I → ℕ) (left given
   pub sink : InitialSink
   pub source : I
   pub dialled : D
+  pub same : source_link source ≡ sink.link
   pub new : IsNewLink (given source) sink.taken (source_faults source) sink.faults
+  pub told : IsTold (ended dialled) (given source) (left source) sink.taken
   pub asks : Asks (asked dialer) (asked dialled) addr
   pub made : MakesLink (ended dialer) (ended dialled)
   pub counted : faults dialled ≡ faults dialer

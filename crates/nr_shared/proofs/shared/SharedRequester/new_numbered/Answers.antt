@@ -21,4 +21,4 @@ returns-in_default-clause-err g c = inl (refl, refl)
 pub returns-in-Err-share_dialled-clause-err : goal.returns-in-Err-share_dialled-clause-err
 returns-in-Err-share_dialled-clause-err g c = let d = c.in-Ok-dial.ensures in
     not_dialled g.I.LinkSource.link g.I.Source.left g.I.Source.given g.I.Source.faults g.O.LinkSink.link g.O.Sink.taken g.O.Sink.faults g.D.Dialer.asked g.D.Dialer.ended g.D.Dialer.faults g.C.CallRule.allows
-    c.args.requester c.args.dialer _ c.args.addr.now _ c.args.tries _ _ _ c.in-Ok.ensures.ok d.fresh d.asked d.made d.counted c.in-Err-share_dialled.ensures.err
+    c.args.requester c.args.dialer _ c.args.addr.now _ c.args.tries _ _ _ c.in-Ok.ensures.ok (d.numbered.source ∙ sym d.numbered.sink) d.fresh d.told d.asked d.made d.counted c.in-Err-share_dialled.ensures.err

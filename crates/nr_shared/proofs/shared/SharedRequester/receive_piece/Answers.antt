@@ -27,7 +27,6 @@ stop-requires-clause-feeding g c = let (b, (f, home)) = c.requires in (c.needs_i
 pub stop-requires-clause-lies : goal.stop-requires-clause-lies
 stop-requires-clause-lies g c = let (b, (f, home)) = c.requires in (c.needs_input.ensures.reads b f home).lies
 
-
 pub returns-in-Err : goal.returns-in-Err
 returns-in-Err g c = λ b f home. (
     let s = c.needs_input.new.reader in let n = c.needs_input.ensures.reads b f home in let w = c.stop.ensures in let e = c.read_piece.ensures in let x = c.in-Err.ensures in
