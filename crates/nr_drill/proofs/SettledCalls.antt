@@ -56,5 +56,5 @@ all_settled server script run is replied follows link within standing complete d
     by true e = refl
     by false e =
         absurd (let none = none_settles t link xid run e in
-            let done = completed_there (t.opened link) link run xid complete due (knows xid there e) none.1 in
-            let wrong : false ≡ true = sym none.0 ∙ done in cc)
+        let done = completed_there (t.opened link) link run xid complete due (knows xid there e) none.1 in
+        let wrong : false ≡ true = sym none.0 ∙ done in cc)
