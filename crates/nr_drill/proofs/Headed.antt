@@ -22,6 +22,7 @@ use Rattle.nr_drill.proofs.PlacesByLinks.{places_rise}
 use Rattle.nr_drill.proofs.NoOldCalls.{standing_has_no_old}
 use Rattle.nr_drill.proofs.StayingLinks.{both_stay, have_completed}
 use Rattle.nr_drill.proofs.Drained.{follows_waits}
+use Rattle.nr_drill.proofs.SettledCalls.{all_settled}
 use Rattle.nr_drill.proofs.DrainedSteps.{follows_leaves_less}
 
 -- if the server is a plain one that keeps its calls, whose replies to changes fit every offer, and each reply is bytes
@@ -49,6 +50,9 @@ follows_is_drill server script run is plain keeps fits replied follows = record 
             (waits, have_completed server script run is replied follows plain keeps link within matched old kept_memory conveyed waits));
         done = λ ends. (have_completed server script run is replied follows plain keeps link within matched old kept_memory conveyed
             (follows_waits server script run is replied follows link within (matched link within.0 (omega arith) refl) standing ends)).has_done (follows_keeps server script run is replied follows link within).handed;
+        settled = λ ends. all_settled server script run is replied follows link within standing
+            (have_completed server script run is replied follows plain keeps link within matched old kept_memory conveyed (follows_waits server script run is replied follows link within (matched link within.0 (omega arith) refl) standing ends))
+            (follows_keeps server script run is replied follows link within).handed;
       });
   drains = λ link within. follows_leaves_less server script run is replied (typed server script run is replied follows) follows link;
 }
