@@ -8,6 +8,7 @@ pub mod FileWriting
 pub mod InputWindows
 pub mod JobCalls
 pub mod JobReading
+pub mod LinkRelations
 pub mod Listings
 pub mod Moves
 pub mod Outcomes

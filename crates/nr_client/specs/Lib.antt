@@ -7,10 +7,10 @@ pub mod LinkParts
 pub mod Listing
 pub mod Paths
 pub mod Reading
+pub mod Relations
 pub mod Requests
 pub mod Results
 pub mod SessionState
-pub mod Shared
 pub mod Steps
 pub mod Transfers
 pub mod Views

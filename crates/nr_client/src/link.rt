@@ -7,13 +7,13 @@ ghost use Rattle.nr_requester.specs.AfterCalls.{opened_as};
 ghost use Rattle.nr_requester.specs.Fed.{fed_bytes};
 ghost use Rattle.nr_client.specs.LinkParts.{RepresentsNewLink};
 
-use crate::call_end::CallEnd;
 use crate::calling::{call_over, complete, submit_over};
 use crate::link_calls::Calls;
 use nr_links::PIECE_MAX;
 use nr_outside::{Sink, Source};
 use nr_reduce::{Call, Outcome};
 use nr_requester::{Requester, Ticket};
+use nr_shared::CallEnd;
 use std::alloc::Global;
 use std::marker::Model;
 
@@ -124,7 +124,12 @@ impl<I: Source, O: Sink> Link<I, O> {
 }
 
 impl<I: Source, O: Sink> Calls for Link<I, O> {
-    ghost use Rattle.nr_client.specs.Views.{link_view};
+    ghost use Rattle.nr_client.specs.Calls.{link_relations};
+    ghost use Rattle.nr_client.specs.Views.{LinkView, link_view};
+
+    ghost View = { LinkView };
+
+    ghost relations = { link_relations };
 
     ghost at = { λ c. link_view (I.left c.source) (I.given c.source) (O.taken c.sink) c.read c.requester (I.faults c.source) (O.faults c.sink) };
 

@@ -4,7 +4,7 @@ ghost use Rattle.std.specs.Prelude.{◌≡◌};
 ghost use Rattle.nr_outside.specs.Streams.{sink_at, source_at};
 ghost use Rattle.nr_words.specs.Lines.{plain_action, plain_client};
 ghost use Rattle.nr_client.specs.Dialing.{dialer_at};
-ghost use Rattle.nr_commands.specs.Running.{IsPrinted, Runs, text_of};
+ghost use Rattle.nr_commands.specs.Running.{IsPrinted, Runs, text_of_over};
 
 use crate::files::{get, put};
 use crate::texts::{
@@ -27,7 +27,7 @@ fn text_of<L: Calls, N: Source, K: Sink>(
     input: &mut N,
     out: &mut K,
 ) -> Result<Octets, ClientEnd>
-    ensures { text_of session.old.uid session.old.gid export.now (plain_action action.now)
+    ensures { text_of_over L.relations session.old.uid session.old.gid export.now (plain_action action.now)
         (source_at (N.left input.old) (N.given input.old) (N.faults input.old)) (source_at (N.left input.new) (N.given input.new) (N.faults input.new))
         (sink_at (K.taken out.old) (K.faults out.old)) (sink_at (K.taken out.new) (K.faults out.new))
         (L.at session.old.link) (L.at session.new.link) result }

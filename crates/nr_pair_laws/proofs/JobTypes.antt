@@ -13,7 +13,8 @@ use Rattle.nr_reduce.specs.Served.{Served}
 use Rattle.nr_laws.specs.Typed.{IsTyped}
 use Rattle.nr_shared.specs.declared.entry.Entry.{Entry as SharedEntry}
 use Rattle.nr_shared.specs.declared.entry.Entry.TheVariants as entries
-use Rattle.nr_shared.specs.Histories.{Allows, AreAllowed, mark_at}
+use Rattle.nr_shared.specs.Histories.{Allows, AreAllowed}
+use Rattle.nr_shared.specs.OneLink.{mark_at}
 use Rattle.nr_plain.specs.History.{setup_in}
 use Rattle.nr_byte_laws.proofs.ByteClients.{none_again}
 use Rattle.nr_client.specs.declared.client_end.ClientEnd.{ClientEnd}
@@ -69,6 +70,7 @@ module _ (uid gid : ℕ) (file : List ℕ) (size n link : ℕ) (words : AreWords
   one_entry entries.WriteFailed rest allowed later = later
   one_entry (entries.Stopped cause previous) rest allowed later = later
   one_entry (entries.OutOfMemory piece previous) rest allowed later = later
+  one_entry (entries.Rejoin sink previous) rest allowed later = later
 
   all_entries : (history : List SharedEntry) → AreAllowed (FileReads uid gid file size) history → MarksOfBytes (without_bytes (flat_map (mark_at n link) history))
   all_entries [] allowed = tt

@@ -6,8 +6,8 @@ use Rattle.nr_link.specs.declared.end.End.TheVariants as ends
 use Rattle.nr_words.specs.Lines.{Text}
 use Rattle.nr_words.specs.declared.commands.Client.{Client}
 use Rattle.nr_words.specs.declared.commands.GetByJobs.{GetByJobs}
-use Rattle.nr_client.specs.declared.call_end.CallEnd.{CallEnd}
-use Rattle.nr_client.specs.declared.call_end.CallEnd.TheVariants as calls
+use Rattle.nr_shared.specs.declared.call_end.CallEnd.{CallEnd}
+use Rattle.nr_shared.specs.declared.call_end.CallEnd.TheVariants as calls
 use Rattle.nr_client.specs.declared.client_end.ClientEnd.{ClientEnd}
 use Rattle.nr_client.specs.declared.client_end.ClientEnd.TheVariants as client
 use Rattle.nr_commands.specs.Endings.{end_text}
@@ -28,6 +28,8 @@ call_status (calls.Ended end) = link_status end
 call_status calls.LinkRead = statuses.link_fault
 call_status calls.LinkWrite = statuses.link_fault
 call_status calls.Closed = statuses.link_closed
+call_status (calls.Tries n) = statuses.link_closed
+call_status calls.DialFault = statuses.link_fault
 call_status (calls.Spent left need) = statuses.over_budget
 call_status (calls.TooLarge need room) = statuses.over_budget
 call_status (calls.Budget read) = statuses.over_budget

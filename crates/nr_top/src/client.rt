@@ -38,8 +38,8 @@ fn call_status(end: CallEnd) -> u8
 {
     match end {
         CallEnd::Ended(end) => link_status(end),
-        CallEnd::LinkRead | CallEnd::LinkWrite => LINK_FAULT,
-        CallEnd::Closed => LINK_CLOSED,
+        CallEnd::LinkRead | CallEnd::LinkWrite | CallEnd::DialFault => LINK_FAULT,
+        CallEnd::Closed | CallEnd::Tries { .. } => LINK_CLOSED,
         CallEnd::Spent { .. } | CallEnd::TooLarge { .. } | CallEnd::Budget { .. } => OVER_BUDGET,
         CallEnd::Memory => NO_MEMORY,
     }
