@@ -11,12 +11,12 @@ use Rattle.nr_client.specs.declared.client_end.ClientEnd.{ClientEnd}
 use Rattle.nr_client.specs.Following.Next.{Calls}
 use Rattle.nr_client.specs.Reading.{FileRead, IsMadeAlone, OpenRead, after_reply, file_read, is_at_piece, next_read, piece_left, read_ahead, read_call, read_result, reading, reads_max, starts_at, with_data, with_size, ReadingOver, IsMadeAheadOver, NoneIsMadeAheadOver}
 use Rattle.nr_client.specs.Reading.FileRead.{NothingKnown, SizeKnown}
-use Rattle.nr_client.specs.Reading.ReadStepOver.{MakesAlone, AsksAhead, TakesOldest}
+use Rattle.nr_client.specs.Reading.ReadStepOver.{MakesAlone, AsksAhead, TakesOldest, Looks}
 use Rattle.nr_client.specs.Requests.{getattr_call, getattr_result, AsksOver}
 use Rattle.nr_client.specs.private.OpenReads.{GivesData, IsFull, IsInPiece, MayAsk, ReadSoFar, ReadsAhead, reads_from}
-use Rattle.nr_client.specs.Relations.{CallRelations, OpensTicketOver}
+use Rattle.nr_client.specs.Relations.{CallRelations, KeepsTicketsOver, LooksOver, OpensTicketOver}
 use Rattle.nr_client.proofs.FilePieces.{asks_next, asks_none, next_after_last, not_at_piece, now_at_piece, reads_with_last}
-use Rattle.nr_client.proofs.Tickets.{open_with_last}
+use Rattle.nr_client.proofs.Tickets.{open_with_last, still_open}
 
 -- a moment of it
 abbrev pub moment : {V : Type 0} → List Outcome → List OpenRead → V → ReadingOver V
@@ -92,6 +92,25 @@ asked_more {V} rel uid gid file size at next xids xid first t u b c below ahead 
       state = so_far.state;
       appends = so_far.appends;
     }
+
+-- the link was asked whether a call can be submitted, or it wasn't
+pub looks_not : {V : Type 0} (rel : CallRelations V) (v : V) → LooksOver rel v v
+looks_not rel v = inl refl
+
+pub looked_ahead : {V : Type 0} (rel : CallRelations V) (v w : V) (size at next : ℕ) (xids : List ℕ) → KeepsTicketsOver rel v w → ReadsAhead rel v size at next xids → ReadsAhead rel w size at next xids
+looked_ahead rel v w size at next xids keeps ahead = record { piece = ahead.piece; next_is = ahead.next_is; open_all = still_open rel v w xids keeps ahead.open_all }
+
+pub looked_on : {V : Type 0} (rel : CallRelations V) (uid gid : ℕ) (file : List ℕ) (size at from : ℕ) (xids : List ℕ) (first : ReadingOver V) (t u : Option (List ℕ)) (b c : V)
+    → LooksOver rel b c → ReadSoFar rel uid gid file size first t at from xids b u → ReadSoFar rel uid gid file size first t at from xids c u
+looked_on {V} rel uid gid file size at from xids first t u b c (inl same) so_far = subst (λ (v : V). ReadSoFar rel uid gid file size first t at from xids v u) (sym same) so_far
+looked_on rel uid gid file size at from xids first t u b c (inr looks) so_far = record {
+  between = moment so_far.outcomes (reads_from uid gid file size from xids) b ∷ so_far.between;
+  outcomes = so_far.outcomes;
+  bytes = so_far.bytes;
+  made = (Looks looks refl refl, so_far.made);
+  state = so_far.state;
+  appends = so_far.appends;
+}
 
 -- no other is
 pub none_ahead : {V : Type 0} (rel : CallRelations V) (uid gid : ℕ) (file : List ℕ) (size at next : ℕ) (xids : List ℕ) (bytes : List ℕ) (outcomes : List Outcome) (b : V)

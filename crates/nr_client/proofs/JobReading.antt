@@ -7,7 +7,6 @@ use mathlib.Core.Option.{some-injective}
 use lib.ListN.{get_elem?}
 use Rattle.nr_outside.specs.Faults.{last_count}
 use Rattle.nr_outside.specs.Streams.{SinkAt, SourceAt, sink_at, source_at}
-use Rattle.nr_links.specs.Links.{LinkLog}
 use Rattle.nr_nfs_base.specs.declared.attributes.Attributes.{Attributes}
 use Rattle.nr_reduce.specs.declared.call.Call.{Call}
 use Rattle.nr_reduce.specs.declared.call.Form.{Form}
@@ -23,11 +22,10 @@ use Rattle.nr_shared.specs.declared.entry.InitialState.{InitialState}
 use Rattle.nr_shared.specs.declared.no_dialer.NoDialer.{NoDialer}
 use Rattle.nr_shared.specs.declared.requester_with_sink.RequesterWithSink.{RequesterWithSink}
 use Rattle.nr_shared.specs.declared.shared.SharedRequester.{SharedRequester}
-use Rattle.nr_shared.specs.Histories.{bytes_fed, initial_of, sink_of, stop_of}
-use Rattle.nr_shared.specs.Feeding.{shared_giving}
+use Rattle.nr_shared.specs.Histories.{PastLink, bytes_fed, initial_of, present, sink_of}
+use Rattle.nr_shared.specs.Feeding.{AskedEach, AskedIf, shared_giving}
 use Rattle.nr_shared.specs.Opening.{GivesBack, GivesLink}
 use Rattle.nr_shared.proofs.Histories.{initial_more}
-use Rattle.nr_shared.proofs.Told.{IsTold, tries_told}
 use Rattle.nr_client.specs.declared.client_end.ClientEnd.{ClientEnd}
 use Rattle.nr_client.specs.declared.client_end.ClientEnd.TheVariants as client
 use Rattle.nr_client.specs.declared.jobs.ReadJob.{ReadJob}
@@ -232,13 +230,21 @@ known_link link left given source_faults sink_link taken sink_faults numbered to
   },
 )
 
+-- the addresses that a dialer was asked for, if none is known
+none_asked : (sink : Option InitialSink) (past : List PastLink) → AskedEach [] sink past None None
+none_asked sink [] = refl
+none_asked sink (p ∷ past) = (None, none_asked p.sink past, by sink) where
+  by : (s : Option InitialSink) → AskedIf s [] None None
+  by None = refl
+  by (Some s) = tt
+
 -- what was given back, by what is known of its source and its sink; its link isn't dialled again
 pub back_known : {I O D : Type 0} (link : I → ℕ) (left given : I → Option (List ℕ)) (source_faults : I → ℕ) (sink_link : O → ℕ) (taken : O → Option (List ℕ)) (sink_faults : O → ℕ) (allows : Call → Form → Type 0) (seen : List Entry) (mine : List ℕ) (first : I)
-    (first_dialer : D) (read : ℕ) (r : RequesterSide) (source : I) (sink : O) (dialer : D)
-    → GivesBack link left given source_faults sink_link taken sink_faults (λ d. None) (λ d. last_count) allows seen mine first first_dialer read r (Some (source, sink)) dialer
-    → GivesBack {I = SourceAt} {O = SinkAt} {D = Unit {0}} (λ x. sink_link sink) (λ x. x.left) (λ x. x.given) (λ x. x.faults) (λ x. sink_link sink) (λ x. x.taken) (λ x. x.faults) (λ d. None) (λ d. last_count) allows seen mine
-    (source_at (left first) (given first) (source_faults first)) tt read r (Some (source_at (left source) (given source) (source_faults source), sink_at (taken sink) (sink_faults sink))) tt
-back_known link left given source_faults sink_link taken sink_faults allows seen mine first first_dialer read r source sink dialer b = record {
+    (first_dialer : D) (addr : List ℕ) (read : ℕ) (r : RequesterSide) (source : I) (sink : O) (dialer : D)
+    → GivesBack link left given source_faults sink_link taken sink_faults (λ d. None) (λ d. None) (λ d. last_count) allows seen mine first first_dialer addr read r (Some (source, sink)) dialer
+    → GivesBack {I = SourceAt} {O = SinkAt} {D = Unit {0}} (λ x. sink_link sink) (λ x. x.left) (λ x. x.given) (λ x. x.faults) (λ x. sink_link sink) (λ x. x.taken) (λ x. x.faults) (λ d. None) (λ d. None) (λ d. last_count) allows seen mine
+    (source_at (left first) (given first) (source_faults first)) tt [] read r (Some (source_at (left source) (given source) (source_faults source), sink_at (taken sink) (sink_faults sink))) tt
+back_known link left given source_faults sink_link taken sink_faults allows seen mine first first_dialer addr read r source sink dialer b = record {
   history = b.history;
   begins = b.begins;
   lies = b.lies;
@@ -258,26 +264,8 @@ back_known link left given source_faults sink_link taken sink_faults allows seen
   fed = b.fed;
   read = b.read;
   link_is = known_link link left given source_faults sink_link taken sink_faults (is_some b.initial.tries) false first (read + length (bytes_fed b.history)) source sink (sink_of b.history) b.history b.link_is;
-  dialer_is = record { open_link = b.dialer_is.open_link; hung_up = b.dialer_is.hung_up; counted = b.dialer_is.counted; failed = b.dialer_is.failed };
+  dialer_is = record { open_link = b.dialer_is.open_link; hung_up = b.dialer_is.hung_up; dialled = none_asked (sink_of b.history) (present b.history).left; counted = b.dialer_is.counted; failed = b.dialer_is.failed };
 }
-
--- a link that is given back without being dialled again is there
-pub link_there : {I O D : Type 0} (link : I → ℕ) (left given : I → Option (List ℕ)) (source_faults : I → ℕ) (sink_link : O → ℕ) (taken : O → Option (List ℕ)) (sink_faults : O → ℕ) (ended : D → Option LinkLog) (faults : D → ℕ) (allows : Call → Form → Type 0)
-    (seen : List Entry) (mine : List ℕ) (first : I) (first_dialer : D) (read : ℕ) (r : RequesterSide) (dialer : D) (initial : InitialState) → initial_of seen ≡ Some initial → initial.tries ≡ None
-    → GivesBack link left given source_faults sink_link taken sink_faults ended faults allows seen mine first first_dialer read r None dialer → ⊥
-link_there link left given source_faults sink_link taken sink_faults ended faults allows seen mine first first_dialer read r dialer initial is once b =
-    let same : initial ≡ b.initial = some_is initial b.initial (sym (ap (λ (h : List Entry). initial_of h) b.begins.1 ∙ initial_more seen b.begins.0 initial is) ∙ b.is_initial) in
-    let none : b.initial.tries ≡ None = sym (ap (λ (i : InitialState). i.tries) same) ∙ once in
-    let told : IsTold None (stop_of b.history) = subst (λ (o : Option ℕ). IsTold o (stop_of b.history)) none (tries_told b.initial b.history b.is_initial b.may_follow) in
-    by (sink_of b.history) b.link_is told
-  where
-    some_is : (x y : InitialState) → Some x ≡ Some y → x ≡ y
-    some_is x y e = cc
-
-    by : (sink : Option InitialSink) → GivesLink link left given source_faults sink_link taken sink_faults (is_some b.initial.tries) (is_some (ended first_dialer)) (shared_giving left given source_faults first) (read + length (bytes_fed b.history)) None sink b.history
-        → IsTold None (stop_of b.history) → ⊥
-    by None fails told = subst (IsTold None) fails told
-    by (Some sink) wrong told = wrong
 
 -- a list of one that is another list of one
 pub one_same : {A : Type 0} (x y : A) (xs ys : List A) → xs ≡ x ∷ [] → ys ≡ y ∷ [] → ys ≡ xs → y ≡ x

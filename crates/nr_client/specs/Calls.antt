@@ -164,6 +164,7 @@ link_relations = record {
   completes = Completes;
   forgets = λ xid end v w. Forgets xid end v w × LinkCause end w.bytes.left w.bytes.read w.requester;
   forgets_call = ForgetsCall;
+  looks = λ v w. w ≡ v;
   Faults = LinkFaults;
   faults = faults_of;
   counts = CountsAt;

@@ -124,8 +124,8 @@ pub record ReadsShared (uid gid : ℕ) (file : List ℕ) (first : Outcome) (size
   pub once : initial.tries ≡ None
   pub requester : RequesterSide
   pub number : ℕ
-  pub back : GivesBack {I = SourceAt} {O = SinkAt} {D = Unit {0}} (λ x. number) (λ x. x.left) (λ x. x.given) (λ x. x.faults) (λ x. number) (λ x. x.taken) (λ x. x.faults) (λ x. None) (λ x. last_count)
-      (FileReads uid gid file size) seen mine link.source tt link.read requester (Some (source, sink)) tt
+  pub back : GivesBack {I = SourceAt} {O = SinkAt} {D = Unit {0}} (λ x. number) (λ x. x.left) (λ x. x.given) (λ x. x.faults) (λ x. number) (λ x. x.taken) (λ x. x.faults) (λ x. None) (λ x. None) (λ x. last_count)
+      (FileReads uid gid file size) seen mine link.source tt [] link.read requester (Some (source, sink)) tt
   pub reads : ReadsByJobs uid gid file first seen mine taken taken' result
 
 -- A file was read into an output by jobs over a link, whose source and sink came back so. GETATTR was made first. It gave no size, and nothing else was

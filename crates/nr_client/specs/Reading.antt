@@ -175,7 +175,7 @@ abbrev pub NoneIsMadeAheadOver : {V : Type 0} → CallRelations V → (uid gid :
 NoneIsMadeAheadOver rel uid gid file s = (read_ahead uid gid file (file_read s.outcomes) s.waiting ≡ None) ⊎ (rel.lacks_credit s.link ⊎ (reads_max ≤ length s.waiting))
 
 -- A step: a call was made alone; or a READ was submitted ahead; or, when none is, the oldest READ was answered, which is the one that follows from
--- the replies before.
+-- the replies before; or the link was asked whether a call can be submitted.
 pub data ReadStepOver {V : Type 0} (rel : CallRelations V) (uid gid : ℕ) (file : List ℕ) (s t : ReadingOver V) : Type 0 where
   MakesAlone : (call : Call) (outcome : Outcome) → IsMadeAlone uid gid file s call → rel.answers s.link t.link call outcome
       → t.outcomes ≡ s.outcomes ++ outcome ∷ [] → t.waiting ≡ s.waiting → ReadStepOver rel uid gid file s t
@@ -183,6 +183,7 @@ pub data ReadStepOver {V : Type 0} (rel : CallRelations V) (uid gid : ℕ) (file
       → t.outcomes ≡ s.outcomes → t.waiting ≡ s.waiting ++ read ∷ [] → ReadStepOver rel uid gid file s t
   TakesOldest : (read : OpenRead) (outcome : Outcome) → NoneIsMadeAheadOver rel uid gid file s → reading uid gid file s.outcomes ≡ Calls read.call
       → rel.completes read.xid outcome s.link t.link → t.outcomes ≡ s.outcomes ++ outcome ∷ [] → s.waiting ≡ read ∷ t.waiting → ReadStepOver rel uid gid file s t
+  Looks : rel.looks s.link t.link → t.outcomes ≡ s.outcomes → t.waiting ≡ s.waiting → ReadStepOver rel uid gid file s t
 
 -- Steps lead from one state to another, by these states between, the last one first.
 abbrev pub LeadsOver : {V : Type 0} → CallRelations V → (uid gid : ℕ) → (file : List ℕ) → (first : ReadingOver V) → List (ReadingOver V) → (last : ReadingOver V) → Type 0

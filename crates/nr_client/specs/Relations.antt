@@ -1,5 +1,5 @@
 -- What contracts say of the calls that are made over a link, whichever kind of link it is.
-use Rattle.std.specs.Prelude.{◌≡◌, ◌≢◌, ℕ, Option, None, Some, Result, Ok, Err}
+use Rattle.std.specs.Prelude.{◌≡◌, ◌≢◌, ◌⊎◌, ℕ, Option, None, Some, Result, Ok, Err}
 use Rattle.nr_reduce.specs.declared.call.Call.{Call}
 use Rattle.nr_reduce.specs.declared.call.Outcome.{Outcome}
 use Rattle.nr_shared.specs.declared.call_end.CallEnd.{CallEnd}
@@ -17,6 +17,8 @@ pub record CallRelations (V : Type 0) : Type 1 where
   pub forgets : ℕ → CallEnd → (v w : V) → Type 0
   -- The call of this xid was forgotten, whether or not its answer had come.
   pub forgets_call : ℕ → (v w : V) → Type 0
+  -- It was asked whether a call can be submitted at once.
+  pub looks : (v w : V) → Type 0
   -- What is known of the fault counts of its source and its sink. They count the fault of this end, if it is one of them.
   pub Faults : Type 0
   pub faults : V → Faults
@@ -28,6 +30,10 @@ pub record CallRelations (V : Type 0) : Type 1 where
   pub open_call : V → ℕ → Option Call
   -- no more was read of it than may be
   pub is_within : V → Type 0
+
+-- it was asked whether a call can be submitted at once, or it wasn't
+abbrev pub LooksOver : {V : Type 0} → CallRelations V → (v w : V) → Type 0
+LooksOver rel v w = (w ≡ v) ⊎ rel.looks v w
 
 -- every ticket is as it was
 abbrev pub KeepsTicketsOver : {V : Type 0} → CallRelations V → (v w : V) → Type 0

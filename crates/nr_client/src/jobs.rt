@@ -36,7 +36,7 @@ use std::thread::Threads;
 
 /// The most pieces of a job in one round: its READs are outstanding at once, and what is held ahead of the output is at most so many pieces of each
 /// job. With more, their data don't stay in a processor's caches until they are written.
-const PIECES_AHEAD: usize = 2;
+const PIECES_AHEAD: usize = 1;
 
 /// A piece of a file that a job has read: where it begins, and the outcome of its READ.
 #[derive(Drop)]
@@ -47,7 +47,7 @@ pub(crate) struct PieceRead {
 
 /// A job: a pass of the shared requester, where its pieces begin, and those that it has read.
 #[derive(Drop)]
-pub(crate) struct ReadJob<I: LinkSource, O: LinkSink, C: CallRule> {
+pub(crate) struct ReadJob<I: LinkSource + Drop, O: LinkSink + Drop, C: CallRule> {
     pub(crate) pass: Pass<I, O, C>,
     pub(crate) offsets: Vec<u64>,
     pub(crate) fetched: Vec<PieceRead>,

@@ -9,6 +9,7 @@ ghost use Rattle.nr_client.specs.LinkParts.{RepresentsNewLink};
 
 use crate::calling::{call_over, complete, submit_over};
 use crate::link_calls::Calls;
+use crate::unnumbered::{UnnumberedSink, UnnumberedSource};
 use nr_links::PIECE_MAX;
 use nr_outside::{Sink, Source};
 use nr_reduce::{Call, Outcome};
@@ -83,10 +84,10 @@ impl<I: Source, O: Sink> Link<I, O> {
         })
     }
 
-    /// What it leaves.
-    pub(crate) fn into_ends(self) -> LinkEnds<I, O>
+    /// What it leaves, for a requester that is shared. Its link isn't dialled again, so the source and the sink need no number.
+    pub(crate) fn into_ends(self) -> LinkEnds<UnnumberedSource<I>, UnnumberedSink<O>>
         ensures requester { result.requester ≡ self.requester }
-        ensures rest { (result.source ≡ self.source) × ((result.sink ≡ self.sink) × (result.read ≡ self.read)) }
+        ensures rest { (result.source.source ≡ self.source) × ((result.sink.sink ≡ self.sink) × (result.read ≡ self.read)) }
         ensures fed { fed_bytes result.requester ≤ read_max }
         ensures within { result.read ≤ read_max }
     {
@@ -100,8 +101,8 @@ impl<I: Source, O: Sink> Link<I, O> {
         drop(buf);
         LinkEnds {
             requester,
-            source,
-            sink,
+            source: UnnumberedSource { source },
+            sink: UnnumberedSink { sink },
             read,
         }
     }
@@ -170,7 +171,7 @@ impl<I: Source, O: Sink> Calls for Link<I, O> {
         self.requester.forget(ticket);
     }
 
-    fn has_credit(&self) -> bool {
+    fn has_credit(&mut self) -> bool {
         self.requester.may_submit()
     }
 }

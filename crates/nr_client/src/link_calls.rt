@@ -58,7 +58,10 @@ pub trait Calls {
 
     /// Whether a call can be submitted at once, if its link has not ended: a credit is left, and the next xid isn't 64 or more above the least
     /// one of an outstanding call of a client with a number.
-    fn has_credit(&self) -> bool
-        ensures yes { result ≡ true → relations.has_credit (at self.now) }
-        ensures no { result ≡ false → relations.lacks_credit (at self.now) };
+    fn has_credit(&mut self) -> bool
+        ensures looks { relations.looks (at self.old) (at self.new) }
+        ensures yes { result ≡ true → relations.has_credit (at self.new) }
+        ensures no { result ≡ false → relations.lacks_credit (at self.new) }
+        ensures tickets { KeepsTicketsOver relations (at self.old) (at self.new) }
+        ensures faults { relations.faults (at self.new) ≡ relations.faults (at self.old) };
 }

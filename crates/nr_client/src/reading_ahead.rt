@@ -2,6 +2,7 @@
 
 ghost use Rattle.std.specs.Prelude.{◌≡◌, ◌<◌, ◌≤◌, ◌+◌, ℕ, true, false, List, length, Option, Err, OnOk, IfErr};
 ghost use Rattle.nr_client.specs.Reading.{ForgetsCallsOver, OutputFaults, piece_left};
+ghost use Rattle.nr_client.specs.Relations.{KeepsTicketsOver, LooksOver};
 ghost use Rattle.nr_client.specs.Requests.{CountsFaultsOver};
 ghost use Rattle.nr_client.specs.Results.{IsOfCall};
 ghost use Rattle.nr_client.specs.private.OpenReads.{AreOpen, EndsSo, IsFull, IsInPiece, MayAsk, ReadsAhead, ReadsOn, next_offset};
@@ -17,14 +18,24 @@ use nr_requester::Ticket;
 use std::alloc::Global;
 
 /// Whether the next piece is asked for: none is outstanding, or fewer than the maximum are and a call may be submitted.
-fn may_ask<L: Calls>(link: &L, size: u64, next: u64, tickets: &[Ticket]) -> bool
-    ensures yes { result ≡ true → MayAsk L.relations size next tickets.now (L.at link.now) }
-    ensures no { result ≡ false → IsFull L.relations size next tickets.now (L.at link.now) }
+#[tactic(auto, using(crate::proofs::FileReading::looks_not))]
+fn may_ask<L: Calls>(link: &mut L, size: u64, next: u64, tickets: &[Ticket]) -> bool
+    ensures looked { LooksOver L.relations (L.at link.old) (L.at link.new) }
+    ensures yes { result ≡ true → MayAsk L.relations size next tickets.now (L.at link.new) }
+    ensures no { result ≡ false → IsFull L.relations size next tickets.now (L.at link.new) }
+    ensures tickets { KeepsTicketsOver L.relations (L.at link.old) (L.at link.new) }
+    ensures faults { L.relations.faults (L.at link.new) ≡ L.relations.faults (L.at link.old) }
 {
     if next >= size {
         return false;
     }
-    tickets.is_empty() || (tickets.len() < READS_MAX && link.has_credit())
+    if tickets.is_empty() {
+        return true;
+    }
+    if tickets.len() >= READS_MAX {
+        return false;
+    }
+    link.has_credit()
 }
 
 /// Submits a READ of the next piece.

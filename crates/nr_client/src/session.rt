@@ -6,7 +6,8 @@ ghost use Rattle.nr_nfs_base.specs.declared.attributes.Attributes.{Attributes};
 ghost use Rattle.nr_links.specs.Asked.{Asks as AsksFor};
 ghost use Rattle.nr_links.specs.Links.{CountsLost, EndsLink, HasOpenLink, IsNewLink, IsTold, MakesLink, ended_link};
 ghost use Rattle.nr_link.specs.Agreement.{terms_with};
-ghost use Rattle.nr_requester.specs.AfterCalls.{opened_as};
+ghost use Rattle.nr_requester.specs.AfterCalls.{numbered_terms, opened_as};
+ghost use Rattle.nr_shared.specs.Standing.{tries_max};
 ghost use Rattle.nr_client.specs.Following.{FollowsOver};
 ghost use Rattle.nr_client.specs.Jobs.{ReadsFileByJobs, jobs_max, link_at};
 ghost use Rattle.nr_client.specs.Listing.{list_next};
@@ -14,6 +15,7 @@ ghost use Rattle.nr_client.specs.Dialing.{OpenFails, dialer_at, session_credits}
 ghost use Rattle.nr_client.specs.Requests.{CountsFaultsOver, AsksOver, create_result, getattr_call, getattr_result, lookup_call, lookup_result, mkdir_call, mnt_call, mnt_result, readlink_call, readlink_result, remove_call, remove_result, symlink_call};
 ghost use Rattle.nr_client.specs.Reading.{InputFaults, OutputFaults, ReadsFileOver};
 ghost use Rattle.nr_client.specs.LinkParts.{RepresentsNewLink};
+ghost use Rattle.nr_client.specs.Numbered.{ClosesNumbered, NumberedFails, OpensNumbered};
 ghost use Rattle.nr_client.specs.Writing.{StopsAtFault, WritesFileOver};
 ghost use Rattle.nr_client.specs.Walking.{parent_next, walk_next};
 
@@ -30,6 +32,8 @@ use crate::read_file::read_file_over;
 use crate::requests::{
     getattr_call, lookup_call, mkdir_call, readlink_call, remove_call, symlink_call,
 };
+use crate::shared_link::SharedLink;
+use crate::unnumbered::{UnnumberedSink, UnnumberedSource};
 use crate::walking::{walk_over, walk_to_parent_over};
 use crate::write_file::write_file_over;
 use nr_links::{Dialer, LinkNumber, LinkSink, LinkSource, NumberedSink, NumberedSource};
@@ -127,6 +131,65 @@ impl<P: LinkSource, Q: LinkSink, N: LinkNumber> Session<
         } = self;
         let (source, sink) = link.into_link();
         dialer.hang_up(source.into_inner(), sink.into_inner());
+    }
+}
+
+impl<
+    'a,
+    R: Wait,
+    I: LinkSource + Drop,
+    O: LinkSink + Drop,
+    D: Dialer<Source = I, Sink = O>,
+> Session<SharedLink<'a, R, I, O, D>> {
+    /// A session of a user over a link to this address, of a client with this number, which isn't 0. If the link is lost, it is hung up and the next one
+    /// is dialled to the same address, at most `tries` times in all, and the calls that weren't answered are sent again. The units of its Sends, and
+    /// whether it takes Sends with Invalidate, are those of `open`.
+    ///
+    /// # Errors
+    ///
+    /// `DialFault` if the dialer failed, `Memory` if memory ran out: then a link that was made is hung up. The dialer comes back.
+    pub fn open_numbered(
+        rt: &'a R,
+        alloc: Global,
+        dialer: D,
+        addr: &str,
+        uid: u32,
+        gid: u32,
+        client: u64,
+        tries: u32,
+        units: u8,
+        invalidates: bool,
+    ) -> Result<Session<SharedLink<'a, R, I, O, D>>, (ClientEnd, D)>
+    where
+        D: Drop,
+        requires client { 0 < client }
+        requires tries { tries ≤ tries_max }
+        ensures opened { IfOk result (λ s. OpensNumbered I.link I.left I.given I.faults D.asked D.ended D.faults tries (numbered_terms client units invalidates) addr.now dialer s.link.pass) }
+        ensures user { IfOk result (λ s. (s.uid ≡ uid) × (s.gid ≡ gid)) }
+        ensures err { IfErr result (λ back. NumberedFails I.link I.left I.given I.faults O.link O.taken O.faults D.asked D.ended D.faults tries (numbered_terms client units invalidates) addr.now dialer back.0 back.1) }
+    {
+        match SharedLink::open(rt, alloc, dialer, addr, client, tries, units, invalidates) {
+            Ok(link) => Ok(Session {
+                alloc,
+                link,
+                uid,
+                gid,
+            }),
+            Err(back) => Err(back),
+        }
+    }
+
+    /// Ends the session: the link at hand is hung up, if there is one. There is none if the last dial failed. The dialer comes back.
+    pub fn close(self) -> D
+        ensures { ClosesNumbered I.link I.left I.given I.faults O.link O.taken O.faults D.asked D.ended D.lost D.faults self.entry.link.pass result }
+    {
+        let Session {
+            alloc: _alloc,
+            link,
+            uid: _uid,
+            gid: _gid,
+        } = self;
+        link.close()
     }
 }
 
@@ -300,9 +363,9 @@ impl<L: Calls> Session<L> {
     }
 }
 
-impl<I: LinkSource + Drop, O: LinkSink + Drop> Session<Link<I, O>> {
+impl<I: Source, O: Sink> Session<Link<I, O>> {
     /// As `read_file`, by several jobs, 1 to 16, each in a thread of its own if there is one. The session ends: its source and its sink come back.
-    /// At most 2 pieces of each job, of 1048576 bytes, are held ahead of what was written.
+    /// At most one piece of each job, of 1048576 bytes, is held ahead of what was written.
     pub fn read_file_by_jobs<R: Threads + Wait + Sync, K: Sink>(
         self,
         rt: &R,
@@ -311,8 +374,8 @@ impl<I: LinkSource + Drop, O: LinkSink + Drop> Session<Link<I, O>> {
         out: &mut K,
     ) -> (Result<(), ClientEnd>, I, O)
     where
-        I: Send,
-        O: Send,
+        I: Drop + Send,
+        O: Drop + Send,
         requires { (0 < jobs) × (jobs ≤ jobs_max) }
         ensures reads { ReadsFileByJobs self.uid self.gid file.now
             (link_at self.link.requester (source_at (I.left self.link.source) (I.given self.link.source) (I.faults self.link.source)) (sink_at (O.taken self.link.sink) (O.faults self.link.sink)) self.link.read)
@@ -342,6 +405,16 @@ impl<I: LinkSource + Drop, O: LinkSink + Drop> Session<Link<I, O>> {
             size,
             jobs,
         };
-        read_shared::<Brand, Brand, R, I, O, K>(rt, link, &file, out)
+        let (result, source, sink) = read_shared::<
+            Brand,
+            Brand,
+            R,
+            UnnumberedSource<I>,
+            UnnumberedSink<O>,
+            K,
+        >(rt, link, &file, out);
+        let UnnumberedSource { source } = source;
+        let UnnumberedSink { sink } = sink;
+        (result, source, sink)
     }
 }

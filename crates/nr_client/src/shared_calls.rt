@@ -44,7 +44,7 @@ pub(crate) fn share<K: Appended, R: Wait, I: LinkSource + Drop, O: LinkSink + Dr
     ensures rests { IfOk result (λ t. SharedRests t.0 t.1) }
     ensures seen { IfOk result (λ t. (seen_by t.1.main ≡ K.entry ∷ []) × (mine_of t.1.main ≡ [])) }
     ensures source { IfOk result (λ t. (b : InitialSource I O C (NoDialer I O)) × ((seen_by t.1.source ≡ b ∷ []) × ((b.source.value ≡ source) × (b.read ≡ read)))) }
-    ensures err { IfErr result (λ back. (d : NoDialer I O) × GivesBack I.link I.left I.given I.faults O.link O.taken O.faults (λ _. None) (λ _. last_count) C.allows (K.entry ∷ []) [] source d read back.0 (Some (back.1, back.2)) d) }
+    ensures err { IfErr result (λ back. (d : NoDialer I O) × ((e : NoDialer I O) × GivesBack I.link I.left I.given I.faults O.link O.taken O.faults (λ _. None) (λ _. None) (λ _. last_count) C.allows (K.entry ∷ []) [] source d [] read back.0 (Some (back.1, back.2)) e)) }
 {
     SharedRequester::new::<InitialHistory<K>, R>(rt, alloc, requester, source, sink, read)
 }

@@ -35,7 +35,7 @@ use Rattle.nr_client.specs.Following.{EndsWith, Follows, MakesCalls, Next, Unans
 use Rattle.nr_client.specs.Following.Next.{Calls, Returns}
 use Rattle.nr_client.specs.Paths.{path_names}
 use Rattle.nr_client.specs.Reading.{ForgetsCalls, EndsReading, InputFaults, OutputFaults, LeadsBy, OpenRead, ReadStep, ReadingAt, ReadsFile, reading, starts_at, xids_of}
-use Rattle.nr_client.specs.Reading.ReadStepOver.{MakesAlone, AsksAhead, TakesOldest}
+use Rattle.nr_client.specs.Reading.ReadStepOver.{MakesAlone, AsksAhead, TakesOldest, Looks}
 use Rattle.nr_client.specs.Reading.EndsReadingOver.{EndsByReplies, OutputFails, NotAnswered, NotSubmitted, OldestForgotten}
 use Rattle.nr_client.specs.Requests.{Asks, create_result, mnt_call, mnt_result, symlink_call}
 use Rattle.nr_client.specs.Results.{Gives}
@@ -348,6 +348,10 @@ step_judged R uid gid file reads s t (TakesOldest read outcome full is completes
           (answers_more R (reading uid gid file) s.outcomes read.call outcome so_far.answers is (judged read.call all.0));
       waiting = all.1;
     }
+step_judged R uid gid file reads s t (Looks looks replies waits) so_far are = record {
+  answers = subst (λ (os : List Outcome). AreAnswers R (reading uid gid file) os) (sym replies) so_far.answers;
+  waiting = subst (λ (w : List OpenRead). AllOf reads w) (sym waits) so_far.waiting;
+}
 
 pub steps_judged : (R : Call → Outcome → Type 0) (uid gid : ℕ) (file : List ℕ) (reads : List OpenRead) (b : LinkView) (states : List ReadingAt) (last : ReadingAt) (leads : LeadsBy uid gid file (starts_at b) states last)
     → AreJudged R reads (steps_exchanges uid gid file (starts_at b) states last leads).made → IsReadSoFar R uid gid file (reads_after reads (steps_exchanges uid gid file (starts_at b) states last leads).made) last
