@@ -37,6 +37,8 @@ use Rattle.nr_record_loop.specs.Connections.{Unanswered, calls as exchanged_call
 use Rattle.nr_shared.specs.declared.call_end.CallEnd.TheVariants as call_ends
 use Rattle.nr_shared.specs.declared.entry.Entry.{Entry}
 use Rattle.nr_shared.specs.declared.requester_with_sink.RequesterWithSink.{RequesterWithSink}
+use Rattle.nr_shared.specs.Ending.{LossEnds}
+use Rattle.nr_shared.specs.Histories.{tries_of}
 use Rattle.nr_shared.specs.LinkRuns.{FitsHistory, LinkRun, links_of}
 use Rattle.nr_shared.specs.Waiting.{NoAnswer, SendsNone}
 use Rattle.nr_gate.specs.declared.gate_end.GateEnd.{GateEnd}
@@ -154,6 +156,11 @@ all_back P (x ∷ xs) ys all = all_back P xs ys all.1
 last_of : {A : Type 0} (P : A → Type 0) (all xs ys : List A) (y : A) (zs : List A) → all ≡ xs ++ ys → ys ≡ y ∷ zs → AllByRecursion P all → P y
 last_of P all xs ys y zs order ys_are are = (subst (AllByRecursion P) ys_are (all_back P xs ys (subst (AllByRecursion P) order are))).0
 
+-- no link is lost so
+no_loss : (tries : Option ℕ) (need room : ℕ) (history : List Entry) → LossEnds tries (call_ends.TooLarge need room) history → ⊥
+no_loss None need room history loss = loss
+no_loss (Some tries) need room history loss = loss
+
 module _ {O C : Type 0} (p q : Pass (RequesterWithSink O C) Entry) (bytes : List ℕ) (need room : ℕ) (is_bytes : IsBytes bytes) (in_limit : IsInLimit bytes) (opened : LinkParameters) (numbers : ℕ → ℕ) (marks : List Mark) where
   abbrev at_last : LinkRun
   at_last = links_of opened numbers marks 0 (seen_by q)
@@ -166,7 +173,7 @@ module _ {O C : Type 0} (p q : Pass (RequesterWithSink O C) Entry) (bytes : List
       (λ (none : SendsNone p q m.asked forms.Auto (call_ends.TooLarge need room)).
       (let c = client at_last.at.opened at_last.at.link at_last.run in
       not_refused c m.asked need room (client_unit at_last.at.opened at_last.at.link at_last.run) (short m.xid c.state.next_xid m.asked m.asks) (none.cause.1 opened numbers marks fits)))
-      (λ (lost : NoAnswer p q m.asked forms.Auto (call_ends.TooLarge need room)). lost.ended)
+      (λ (lost : NoAnswer p q m.asked forms.Auto (call_ends.TooLarge need room)). no_loss (tries_of lost.before) need room lost.before lost.ended)
       m.made
 
 pub connections_never_end_too_large : {O C : Type 0} → ConnectionsNeverEndTooLarge O C

@@ -37,7 +37,6 @@ use Rattle.nr_shared.specs.LinkStanding.{IsLiveOn, IsOutOn}
 use Rattle.nr_shared.specs.Marks.{IsLive as IsSharedLive}
 use Rattle.nr_shared.specs.Standing.{OnHistory, RejoinsWithin, RepresentsHistoryIf, is_out_of_memory}
 use Rattle.nr_shared.proofs.Histories.{initial_more}
-use Rattle.nr_shared.proofs.OneBack.{moved_over_one}
 use Rattle.nr_shared.proofs.OneLink.{on_one_link}
 use Rattle.nr_shared.specs.declared.call_end.CallEnd.TheVariants as calls
 use Rattle.nr_client.specs.declared.client_end.ClientEnd.{ClientEnd}
@@ -65,7 +64,9 @@ use Rattle.nr_service_laws.proofs.Extending.{does_as, does_both}
 use Rattle.nr_service_laws.proofs.OneCall.{does_answers}
 use Rattle.nr_service_laws.proofs.Parts.{has_finds, has_request}
 use Rattle.nr_pair_laws.specs.JobRuns.{IsJobMark, IsJobsRun, JobsHaveARun, SaysOfFile}
+use Rattle.nr_pair_laws.proofs.FaultCounts.{counts_of_both}
 use Rattle.nr_pair_laws.proofs.JobBytes.{history_fed, history_received, history_sent}
+use Rattle.nr_pair_laws.proofs.OneBack.{moved_over_one}
 
 -- ---- Its marks
 
@@ -287,7 +288,7 @@ no_size_run opened link addr units invalidates uid gid export path file before d
     let found = tells_finds uid gid export path s s' (Ok file) finds in
     let asked = asked_exchanges getattr_result call (view_at (link_of s')) (view_at mid) (Err end) gets.asks in
     let second = does_as {A = Attributes} {B = Unit {0}} (Err end) result s' (view_at mid) asked (λ e ended. same_end {A = Attributes} result end e is ended)
-    (has_request getattr_result call s' (session_of mid) (Err end) (gets.asks, (gets.source_count, gets.sink_count))) in
+    (has_request getattr_result call s' (session_of mid) (Err end) (gets.asks, counts_of_both {A = Attributes} (Err end) s' (session_of mid) gets.source_count gets.sink_count)) in
     let has = does_both {A = List ℕ} {B = Unit {0}} file result s s' (view_at mid) found asked (has_finds uid gid export path s s' (Ok file) finds) second in
     let done = has opened link [] session.fine (sessions_begin_lem addr (terms_with units invalidates) before dialed s opened link opens session.first_xid session.first_stag session.wished) in
     alone_run opened link addr (terms_with units invalidates) before dialed after s opens mid.source mid.sink mid.read mid.requester result (and_then found asked) session.wished.1.1 (ap (λ (t : SideTerms). t.number) session.wished.1.0) done hangs

@@ -40,6 +40,7 @@ use Rattle.nr_pair_laws.specs.JobPairs.{JobsAreTyped}
 use Rattle.nr_pair_laws.specs.JobRuns.{IsJobMark, IsJobsRun, SaysOfFile}
 use Rattle.nr_pair_laws.specs.Pairs.{AreSidesOf}
 use Rattle.nr_pair_laws.proofs.AnsweredCalls.{exchanged_in, is_exchanged}
+use Rattle.nr_pair_laws.proofs.FaultCounts.{counts_of_both}
 use Rattle.nr_pair_laws.proofs.JobAnswers.{job_far, run_first}
 use Rattle.nr_pair_laws.proofs.JobRuns.{session_of}
 use Rattle.nr_pair_laws.proofs.Pairs.{connection_replies}
@@ -124,7 +125,7 @@ jobs_are_typed_lem limits first J opened link outside outside' end connection ge
     by (NoAttributes mid why gets is same none) = λ ran both sides.
         let asked = (asked_exchanges getattr_result call (view_at (link_of s')) (view_at mid) (Err why) gets.asks).made in
         let of_asked : AreBytes found → CallsAreBytes asked =
-        (λ all. (request_bytes (λ (value : Attributes). Unit {0}) getattr_result call (asks all) (λ outcome value o e. tt) s' (session_of mid) (Err why) (gets.asks, (gets.source_count, gets.sink_count))).0) in
+        (λ all. (request_bytes (λ (value : Attributes). Unit {0}) getattr_result call (asks all) (λ outcome value o e. tt) s' (session_of mid) (Err why) (gets.asks, counts_of_both {A = Attributes} (Err why) s' (session_of mid) gets.source_count gets.sink_count)).0) in
         typed (found ++ asked) [] ran (both_calls found asked finding.0 of_asked) (λ all k. tt) both sides
     by (Shared mid outcome attributes gets shared) = λ ran both sides.
         let asked = Answered call outcome ∷ [] in
