@@ -17,5 +17,5 @@ mod texts;
 
 pub use by_jobs::get_by_jobs;
 pub use ending::end_text;
-pub use run::run_command;
 pub use numbered::run_numbered;
+pub use run::run_command;
