@@ -19,7 +19,7 @@ use std::alloc::Global;
 use std::marker::Brand;
 
 /// Makes the requests of a command, and gives the text that it prints.
-fn text_of<L: Calls, N: Source, K: Sink>(
+pub(crate) fn text_of<L: Calls, N: Source, K: Sink>(
     alloc: Global,
     session: &mut Session<L>,
     export: &str,
@@ -46,7 +46,7 @@ fn text_of<L: Calls, N: Source, K: Sink>(
 }
 
 /// Prints a text, if there is one.
-fn print<O: Sink>(out: &mut O, text: Result<Octets, ClientEnd>) -> Result<(), ClientEnd>
+pub(crate) fn print<O: Sink>(out: &mut O, text: Result<Octets, ClientEnd>) -> Result<(), ClientEnd>
     ensures { IsPrinted text result (sink_at (O.taken out.old) (O.faults out.old)) (sink_at (O.taken out.new) (O.faults out.new)) }
 {
     let text = match text {
