@@ -89,7 +89,7 @@ fn run_lent<
 /// Runs a command of a client with a number as [`run_command`](crate::run_command) runs one without, but for its link. If that is lost, it is
 /// hung up and the next one is dialled to the same address, at most as often as the tries say, and the calls that weren't answered are sent again under
 /// their xids: a server that keeps replies by number and xid executes each of them at most once. The number is for this run alone: used again,
-/// it gets the replies of the first run.
+/// it can get the replies of an earlier run in place of its own.
 ///
 /// # Errors
 ///

@@ -35,7 +35,7 @@ const INVALIDATE_HELP: &str =
     "Let the server's replies invalidate memory that was offered, if it agrees to it";
 
 const CLIENT_HELP: &str =
-    "A number, 1 to 18446744073709551615, for this run alone, with --tries: a lost link is dialled again, and no change is made twice. Used again, it gets the first run's replies and changes nothing";
+    "A number, 1 to 18446744073709551615, for this run alone, with --tries: a lost link is dialled again, and no change is made twice. Take a new one for each run: used again, it can get an earlier run's replies and change the wrong file";
 
 const TRIES_HELP: &str = "How often a lost link is dialled again in all, 0 to 16, with --client";
 
