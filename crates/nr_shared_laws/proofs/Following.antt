@@ -58,7 +58,7 @@ accepted_more : (link : ℕ) (run : List Mark) (mark : Mark) → accepted_at lin
 unfolding accepted_calls
 accepted_more link run mark none =
     flat_map-append (accepted_at link) run (mark ∷ [])
-    ∙ (ap (λ (as : List AcceptedCall). flat_map (accepted_at link) run ++ (as ++ [])) none ∙ append-nil (flat_map (accepted_at link) run))
+    ∙ (ap (λ (calls : List AcceptedCall). flat_map (accepted_at link) run ++ (calls ++ [])) none ∙ append-nil (flat_map (accepted_at link) run))
 
 -- ---- A link that was left, and the one that follows
 
@@ -128,7 +128,7 @@ answered : (e at : OpenedLink) (run began : List Mark) (xid : ℕ) → IsReopene
     → HasAnswer e.opened e.link began xid
 answered e at run began xid r same w none =
     let own : eqb w.asked.xid xid ≡ true = eq-eqb w.asked.xid xid w.own in
-    let there : Contains (client_calls e.opened e.link began) w.asked = subst (λ (as : List AcceptedCall). Contains (map as_accepted e.opened.resumed ++ as) w.asked) same w.is_asked in
+    let there : Contains (client_calls e.opened e.link began) w.asked = subst (λ (calls : List AcceptedCall). Contains (map as_accepted e.opened.resumed ++ calls) w.asked) same w.is_asked in
     let asked : list_any (λ (a : AcceptedCall). eqb a.xid xid) (client_calls e.opened e.link began) ≡ true = passes_any (λ (a : AcceptedCall). eqb a.xid xid) (client_calls e.opened e.link began) w.asked there own in
     let kept : is_abandoned e.link xid began ≡ false =
     first_false (is_abandoned e.link xid began) (is_abandoned e.link xid r.after) (sym (list_any-append (abandons e.link xid) began r.after) ∙ (ap (λ (m : List Mark). list_any (abandons e.link xid) m) (sym r.is_cut) ∙ w.kept)) in
@@ -184,8 +184,8 @@ revoke_gives xid bytes = record {
 -- ---- The mark of a call's own link
 
 other_from : (mark : Mark) (c link : ℕ) (left : List OpenedLink) → link_of mark ≡ c → c ≡ link → AllByRecursion (λ (e : OpenedLink). link ≢ e.link) left → AllByRecursion (λ (e : OpenedLink). link_of mark ≢ e.link) left
-other_from mark c link [] of is apart = tt
-other_from mark c link (e ∷ left) of is apart = ((λ same. apart.0 (sym is ∙ (sym of ∙ same))), other_from mark c link left of is apart.1)
+other_from mark c link [] own is apart = tt
+other_from mark c link (e ∷ left) own is apart = ((λ same. apart.0 (sym is ∙ (sym own ∙ same))), other_from mark c link left own is apart.1)
 
 -- what the law of each link that was left asks of a mark
 abbrev pub AskEach : List Mark → Mark → List OpenedLink → Type 0

@@ -1,7 +1,8 @@
 -- The links of a history that keeps the law go on from one another.
-use Rattle.std.proofs.Common.{◌≡◌, ◌≢◌, ℕ, suc, ◌<◌, ◌≤◌, arith, Bool, true, false, List, [], ◌∷◌, ◌++◌, length, map, Option, None, Some, inl, refl, sym, ap, subst, ◌∙◌, append_assoc, append-nil}
+use Rattle.std.proofs.Common.{◌≡◌, ◌≢◌, ℕ, suc, ◌<◌, ◌≤◌, arith, Bool, true, false, List, [], ◌∷◌, ◌++◌, length, map, take, Option, None, Some, inl, refl, sym, ap, subst, ◌∙◌, append_assoc, append-nil}
 use Rattle.std.specs.List.{AllByRecursion}
 use Rattle.nr_wire.specs.declared.hello.Side.TheVariants.{Initiator}
+use Rattle.nr_link.specs.declared.agreement.SideTerms.{SideTerms}
 use Rattle.nr_reduce.specs.declared.call.Submission.TheVariants as submissions
 use Rattle.nr_reduce.specs.declared.mark.LinkParameters.{LinkParameters}
 use Rattle.nr_reduce.specs.declared.mark.Mark.{Mark}
@@ -88,7 +89,7 @@ going_next next l stays stags none g = record {
     },
     g.chain,
   );
-  numbered = λ zero. g.numbered (sym (ap (λ c. c.number) (client_kept l.at.opened l.at.link l.run)) ∙ zero);
+  numbered = λ none. g.numbered (sym (ap (λ (c : SideTerms). c.number) (client_kept l.at.opened l.at.link l.run)) ∙ none);
 }
 
 -- ---- The marks of an entry
@@ -122,7 +123,7 @@ going_entry n l (entries.Revoke xid bytes submit) none apart lawful g =
 going_entry n l entries.WriteFailed none apart lawful g = going_own l [] (all_none l.left) g
 going_entry n l (entries.Stopped cause previous) none apart lawful g = going_own l [] (all_none l.left) g
 going_entry n l (entries.OutOfMemory piece previous) none apart lawful g =
-    going_own l (marks_at n l (entries.OutOfMemory piece previous)) (fed_none (marks.Fed l.at.link Initiator _) l.at.link [] l.left refl apart.0) g
+    going_own l (marks_at n l (entries.OutOfMemory piece previous)) (fed_none (marks.Fed l.at.link Initiator (take n piece)) l.at.link [] l.left refl apart.0) g
 going_entry n l (entries.Rejoin sink previous) none apart lawful g = absurd cc
 
 -- ---- The numbers

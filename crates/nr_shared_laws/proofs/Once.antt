@@ -4,7 +4,11 @@ use Rattle.std.specs.List.{AllByRecursion, list_any}
 use Rattle.std.proofs.lemmas.Bool.{eqb-true}
 use Rattle.nr_reduce.specs.declared.mark.LinkParameters.{LinkParameters}
 use Rattle.nr_reduce.specs.declared.mark.Mark.{Mark}
+use Rattle.nr_reduce.specs.Client.{client_rules, initial_client}
+use Rattle.nr_reduce.specs.EndRules.{end_state_after}
+use Rattle.nr_reduce.specs.Run.{client}
 use Rattle.nr_laws.specs.OnceEach.{BegunLink, GoesOn, IsEarlier}
+use Rattle.nr_laws.specs.Touches.{StopsAt}
 use Rattle.nr_laws.proofs.EarlierStags.{earlier_stags_are_dead}
 use Rattle.nr_laws.proofs.LaterOutcomes.{no_outcome_twice}
 use Rattle.nr_shared.specs.LinkRuns.{OpenedLink}
@@ -42,7 +46,8 @@ outcomes_come_once l link other before other_before xid outcome other_outcome s 
 
 pub session_stags_are_dead : SessionStagsAreDead
 session_stags_are_dead l first last offered earlier later f segment access e differ there stag is none hello held reached = by e.links e.goes_on where
-  by : (links : List BegunLink) → GoesOn (opened_by l) l.run first (record { link = last; began = e.began }) links → _
+  by : (links : List BegunLink) → GoesOn (opened_by l) l.run first (record { link = last; began = e.began }) links
+      → StopsAt (client_rules (opened_by l last)) (end_state_after (client_rules (opened_by l last)) (initial_client (opened_by l last)) earlier) f (client (opened_by l last) last l.run)
   by [] goes = absurd (differ (sym goes))
   by (old ∷ links) goes =
       earlier_stags_are_dead (opened_by l) first (record { link = last; began = e.began }) old links l.run offered earlier later f segment access goes there stag is none hello held reached

@@ -98,7 +98,7 @@ fits_before opened numbers before (x ∷ xs) ys (c, is, fits) lost =
 
 -- ---- Out of memory
 
-is_out : Entry → Bool
+abbrev is_out : Entry → Bool
 is_out (entries.OutOfMemory piece previous) = true
 is_out (entries.Initial initial) = false
 is_out (entries.Submit call form xid) = false

@@ -15,12 +15,15 @@ use Rattle.nr_reduce.specs.Events.RunEvent.{CallExecuted, CallSubmitted, FrameRe
 use Rattle.nr_reduce.specs.History.{same_side}
 use Rattle.nr_reduce.specs.Opening.{IsOpened}
 use Rattle.nr_reduce.specs.Reopening.{IsReopened}
+use Rattle.nr_requester.specs.RequesterState.{RequesterSide}
 use Rattle.nr_requester.specs.Reopening.{HasNoMark, link_of}
 use Rattle.nr_laws.specs.OnceEach.{BegunLink, GoesOn, HasNotBegun, IsEarlier, IsNextLink}
 use Rattle.nr_shared.specs.declared.entry.Entry.{Entry}
-use Rattle.nr_shared.specs.LinkRuns.{AllLinks, LinkRun, OpenedLink, links_of}
-use Rattle.nr_shared.specs.LinkStanding.{KeepsLinkLaw}
-use Rattle.nr_shared_laws.specs.Sessions.{AreEarlier, IsAmong, SessionLinksGoOn, opened_among, opened_by, unnumbered}
+use Rattle.nr_shared.specs.LinkRuns.{AllLinks, FitsHistory, LinkRun, OpenedLink, links_of}
+use Rattle.nr_shared.specs.LinkStanding.{IsLeft, IsLiveOn, KeepsLinkLaw}
+use Rattle.nr_shared.specs.Output.{EntriesMayFollow}
+use Rattle.nr_shared.specs.Standing.{RepresentsHistoryIf}
+use Rattle.nr_shared_laws.specs.Sessions.{AreEarlier, AreOpened, IsAmong, IsSession, RepresentedLinksGoOn, SessionLinksGoOn, opened_among, opened_by, unnumbered}
 use Rattle.nr_shared_laws.proofs.Following.{Apart, Chain}
 use Rattle.nr_shared_laws.proofs.GoingOn.{all_go, links_apart}
 use Rattle.nr_shared_laws.proofs.Prefixes.{IsLawful}
@@ -91,7 +94,7 @@ in_session other xs run first link [] goes there = subst (IsAmong xs) goes there
 in_session other xs run first link (old ∷ links) goes there = in_session other xs run first old links goes.1 (numbered_among other xs old.link goes.0.reopened.numbered)
 
 module _ (opened : ℕ → LinkParameters) (run : List Mark) where
-  GoesTo : (first : ℕ) → OpenedLink → List Mark → Type 0
+  abbrev GoesTo : (first : ℕ) → OpenedLink → List Mark → Type 0
   GoesTo first x began = (links : List BegunLink) × GoesOn opened run first (record { link = x.link; began = began }) links
 
   reach : (x : OpenedLink) (began : List Mark) (left : List OpenedLink) → AllByRecursion (λ (e : OpenedLink). opened e.link ≡ e.opened) (x ∷ left) → Chain run x began left → AllByRecursion (λ (f : OpenedLink). GoesTo f.link x began) (x ∷ left)
@@ -127,13 +130,13 @@ asked_all : (run : List Mark) (left : List OpenedLink) → AllByRecursion (λ (e
 asked_all run [] law = tt
 asked_all run (e ∷ left) law = (law.0.asked, asked_all run left law.1)
 
-pub session_links_go_on : SessionLinksGoOn
-session_links_go_on history opened numbers before k fits number opens =
-    let l : LinkRun = links_of opened numbers before k.n history in
-    let law : AllLinks KeepsLinkLaw l = k.law opened numbers before fits in
+session_of : (history : List Entry) (opened : LinkParameters) (numbers : ℕ → ℕ) (before : List Mark) (n : ℕ) → FitsHistory history opened numbers before → EntriesMayFollow history → AllLinks KeepsLinkLaw (links_of opened numbers before n history)
+    → AreOpened (links_of opened numbers before n history) → opened.client.number ≢ 0 → IsSession (links_of opened numbers before n history)
+session_of history opened numbers before n fits follow law opens number =
+    let l : LinkRun = links_of opened numbers before n history in
     let lawful : AllLinks IsLawful l = ((law.0.asked, opens.0), lawful_all l.run l.left law.1 opens.1) in
-    let going = all_go history opened numbers before k.n fits k.may_follow lawful number in
-    let apart : Apart (l.at ∷ l.left) = links_apart history opened numbers before k.n fits k.may_follow lawful history [] (sym (append-nil history)) in
+    let going = all_go history opened numbers before n fits follow lawful number in
+    let apart : Apart (l.at ∷ l.left) = links_apart history opened numbers before n fits follow lawful history [] (sym (append-nil history)) in
     let all = l.at ∷ l.left in
     record {
       earlier = are_earlier (opened_by l) l.run l.at going.began l.left (finds l.at.opened all apart) going.chain;
@@ -143,3 +146,24 @@ session_links_go_on history opened numbers before k fits number opens =
           among_all (λ (o : LinkParameters) (m : ℕ). AskedSoFar o m l.run) l.at.opened all earlier (law.0.asked, asked_all l.run l.left law.1)
           (in_session l.at.opened all l.run earlier (record { link = link; began = e.began }) e.links e.goes_on there);
     }
+
+pub session_links_go_on : SessionLinksGoOn
+session_links_go_on history opened numbers before k fits number opens = session_of history opened numbers before k.n fits k.may_follow (k.law opened numbers before fits) opens number
+
+-- ---- A history that a requester stands for
+
+left_opened : (l : LinkRun) (h : RequesterSide) (left : List OpenedLink) → AllByRecursion (IsLeft l h) left → AllByRecursion (λ (e : OpenedLink). IsOpened e.opened) left
+left_opened l h [] all = tt
+left_opened l h (e ∷ left) all = (all.0.opens, left_opened l h left all.1)
+
+left_law : (l : LinkRun) (h : RequesterSide) (left : List OpenedLink) → AllByRecursion (IsLeft l h) left → AllByRecursion (λ (e : OpenedLink). KeepsLinkLaw e.opened e.link l.run) left
+left_law l h [] all = tt
+left_law l h (e ∷ left) all = (all.0.law, left_law l h left all.1)
+
+pub represented_links_go_on : RepresentedLinksGoOn
+represented_links_go_on initial r stopped history opened numbers before n is represents none follow fits =
+    let l : LinkRun = links_of opened numbers before n history in
+    let live = subst (λ (b : Bool). RepresentsHistoryIf b initial r history) none represents in
+    let on : IsLiveOn l r = live.1 n opened numbers before fits in
+    let opens : AreOpened l = (on.opens, left_opened l r l.left on.left) in
+    (opens, λ number. session_of history opened numbers before n (initial, is, fits) follow (on.law, left_law l r l.left on.left) opens number)

@@ -27,8 +27,9 @@ use Rattle.nr_shared.specs.declared.entry.Entry.{Entry}
 use Rattle.nr_shared.specs.declared.entry.InitialState.{InitialState}
 use Rattle.nr_shared.specs.declared.entry.Stop.{Stop}
 use Rattle.nr_shared.specs.Callers.{KeepsLaw}
-use Rattle.nr_shared.specs.Histories.{rejoins}
+use Rattle.nr_shared.specs.Histories.{initial_of, rejoins}
 use Rattle.nr_shared.specs.LinkRuns.{FitsHistory, FitsInitialState, LinkRun, OpenedLink, links_of}
+use Rattle.nr_shared.specs.Output.{EntriesMayFollow}
 use Rattle.nr_shared.specs.Standing.{RepresentsHistory, is_out_of_memory}
 
 -- ---- The links by their numbers
@@ -75,10 +76,12 @@ abbrev pub SessionLinksGoOn : Type 0
 SessionLinksGoOn = (history : List Entry) (opened : LinkParameters) (numbers : ℕ → ℕ) (before : List Mark) (k : KeepsLaw history) → FitsHistory history opened numbers before → opened.client.number ≢ 0 →
     AreOpened (links_of opened numbers before k.n history) → IsSession (links_of opened numbers before k.n history)
 
--- A requester stands for this history, and hasn't run out of memory: then each link was opened in range.
-abbrev pub RepresentedLinksAreOpened : Type 0
-RepresentedLinksAreOpened = (initial : InitialState) (r : RequesterSide) (stopped : Option Stop) (history : List Entry) (opened : LinkParameters) (numbers : ℕ → ℕ) (before : List Mark) (n : ℕ) →
-    RepresentsHistory initial r stopped history → is_out_of_memory stopped ≡ false → FitsInitialState initial (rejoins history) opened numbers before → AreOpened (links_of opened numbers before n history)
+-- A requester stands for this history, whose entries may follow on one another, and hasn't run out of memory: then each link was opened in range, and they are
+-- a session, if the client of the first one has a number.
+abbrev pub RepresentedLinksGoOn : Type 0
+RepresentedLinksGoOn = (initial : InitialState) (r : RequesterSide) (stopped : Option Stop) (history : List Entry) (opened : LinkParameters) (numbers : ℕ → ℕ) (before : List Mark) (n : ℕ) → initial_of history ≡ Some initial →
+    RepresentsHistory initial r stopped history → is_out_of_memory stopped ≡ false → EntriesMayFollow history → FitsInitialState initial (rejoins history) opened numbers before →
+    AreOpened (links_of opened numbers before n history) × (opened.client.number ≢ 0 → IsSession (links_of opened numbers before n history))
 
 -- ---- What is so of each session
 

@@ -1,6 +1,6 @@
 //! Laws of the links of a session.
 
-ghost use Rattle.nr_shared_laws.specs.Sessions.{OutcomesComeOnce, RepresentedLinksAreOpened, SessionLinksGoOn, SessionStagsAreDead};
+ghost use Rattle.nr_shared_laws.specs.Sessions.{OutcomesComeOnce, RepresentedLinksGoOn, SessionLinksGoOn, SessionStagsAreDead};
 
 /// The links of a history that keeps the law are links of one client: each was opened with what the client knew when it left the link before it, and
 /// at that link's end nothing happened since but that answers that had come were handed over, forgotten or revoked.
@@ -18,8 +18,8 @@ pub fn session_stags_are_dead()
     ensures { SessionStagsAreDead }
 {}
 
-/// The links of a history that a requester stands for were opened in range, unless it ran out of memory. So those of a requester that `close` gives back
-/// were.
-pub fn represented_links_are_opened()
-    ensures { RepresentedLinksAreOpened }
+/// The links of a history that a requester stands for were opened in range, unless it ran out of memory, and they are links of one client. So it is with
+/// those of a requester that `close` gives back.
+pub fn represented_links_go_on()
+    ensures { RepresentedLinksGoOn }
 {}

@@ -6,5 +6,5 @@
 mod laws;
 
 pub use laws::{
-    outcomes_come_once, represented_links_are_opened, session_links_go_on, session_stags_are_dead,
+    outcomes_come_once, represented_links_go_on, session_links_go_on, session_stags_are_dead,
 };
