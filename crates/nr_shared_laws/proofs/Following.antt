@@ -194,7 +194,7 @@ AskEach run mark left = AllByRecursion (λ (e : OpenedLink). AskedMark IsPrefixO
 pub chain_call : (mark : ℕ → Mark) (xid : ℕ) → IsGiving mark xid → (run : List Mark) (c : ℕ) (left : List OpenedLink) (at : OpenedLink) (began : List Mark) → c ≡ (last_carrier at left xid).link → Apart (at ∷ left) → AskEach run (mark c) left → Chain run at began left
     → Chain (run ++ mark c ∷ []) at began left
 chain_call mark xid g run c [] at began is apart asks chain = tt
-chain_call mark xid g run c (e ∷ left) at began is apart asks (old, f, rest) = by (carries at.opened xid) refl is where
+chain_call mark xid g run c (e ∷ left) at began is apart asks (old, f, rest) = by (carries at.opened xid) refl is (λ own. chain_call mark xid g run c left e old own apart.1 asks.1 rest) where
   here : (b : Bool) → eqb c e.link ≡ b → carries at.opened xid ≡ false → Follows (run ++ mark c ∷ []) e at old began
   here true same none =
       let own : c ≡ e.link = eqb-true c e.link same in
@@ -202,6 +202,6 @@ chain_call mark xid g run c (e ∷ left) at began is apart asks (old, f, rest) =
       subst (λ (n : ℕ). Follows (run ++ mark n ∷ []) e at old began) (sym own) (follows_more run e at old began (mark e.link) f (g.accepted e.link) goes.0 goes.1)
   here false other none = follows_other run e at old began (mark c) (λ same. eqb-false c e.link other (sym (g.of c) ∙ same)) f
 
-  by : (b : Bool) → carries at.opened xid ≡ b → c ≡ (cond b at (last_carrier e left xid)).link → Chain (run ++ mark c ∷ []) at began (e ∷ left)
-  by true carried own = chain_other run (mark c) (e ∷ left) at began (other_from (mark c) c at.link (e ∷ left) (g.of c) own apart.0) (old, f, rest)
-  by false none own = (old, here (eqb c e.link) refl none, chain_call mark xid g run c left e old own apart.1 asks.1 rest)
+  by : (b : Bool) → carries at.opened xid ≡ b → c ≡ (cond b at (last_carrier e left xid)).link → (c ≡ (last_carrier e left xid).link → Chain (run ++ mark c ∷ []) e old left) → Chain (run ++ mark c ∷ []) at began (e ∷ left)
+  by true carried own later = chain_other run (mark c) (e ∷ left) at began (other_from (mark c) c at.link (e ∷ left) (g.of c) own apart.0) (old, f, rest)
+  by false none own later = (old, here (eqb c e.link) refl none, later own)
