@@ -25,14 +25,14 @@ module _ (opened : ℕ → LinkParameters) (run : List Mark) where
   -- of two links one goes on from the other
   either : (xs : List OpenedLink) (link other : ℕ) → AreEarlier opened run xs → IsAmong xs link → IsAmong xs other → IsEarlier opened run link other ⊎ IsEarlier opened run other link
   either [] link other all a b = absurd (let wrong : false ≡ true = a in cc)
-  either (x ∷ xs) link other all a b = by (eqb x.link other) refl (eqb x.link link) refl where
+  either (x ∷ xs) link other all a b = by (eqb x.link other) refl (eqb x.link link) refl (λ there there_other. either xs link other all.1 there there_other) where
     rest : (k : ℕ) → IsAmong (x ∷ xs) k → eqb x.link k ≡ false → IsAmong xs k
     rest k there not = subst (λ (c : Bool). (c || list_any (λ (e : OpenedLink). eqb e.link k) xs) ≡ true) not there
 
-    by : (c : Bool) → eqb x.link other ≡ c → (d : Bool) → eqb x.link link ≡ d → IsEarlier opened run link other ⊎ IsEarlier opened run other link
-    by true is d same = inl (subst (λ (k : ℕ). IsEarlier opened run link k) (eqb-true x.link other is) (pick (λ (k : ℕ). IsEarlier opened run k x.link) (x ∷ xs) link all.0 a))
-    by false not true is = inr (subst (λ (k : ℕ). IsEarlier opened run other k) (eqb-true x.link link is) (pick (λ (k : ℕ). IsEarlier opened run k x.link) (x ∷ xs) other all.0 b))
-    by false not false neither = either xs link other all.1 (rest link a neither) (rest other b not)
+    by : (c : Bool) → eqb x.link other ≡ c → (d : Bool) → eqb x.link link ≡ d → (IsAmong xs link → IsAmong xs other → IsEarlier opened run link other ⊎ IsEarlier opened run other link) → IsEarlier opened run link other ⊎ IsEarlier opened run other link
+    by true is d same later = inl (subst (λ (k : ℕ). IsEarlier opened run link k) (eqb-true x.link other is) (pick (λ (k : ℕ). IsEarlier opened run k x.link) (x ∷ xs) link all.0 a))
+    by false not true is later = inr (subst (λ (k : ℕ). IsEarlier opened run other k) (eqb-true x.link link is) (pick (λ (k : ℕ). IsEarlier opened run k x.link) (x ∷ xs) other all.0 b))
+    by false not false neither later = later (rest link a neither) (rest other b not)
 
 -- ---- Each session
 
