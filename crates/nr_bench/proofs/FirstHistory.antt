@@ -15,14 +15,18 @@ fresh : (r : RequesterSide) → r ≡ opened_as 1 1 16 default_terms r.staging �
 unfolding opened_as
 fresh r state = ap (λ (h : RequesterSide). h.state.side.ended) state
 
-pub is_initial_history : {O : Type 0} (taken : O → Option (List ℕ)) (faults : O → ℕ) (r : RequesterSide) (sink : O) → r ≡ opened_as 1 1 16 default_terms r.staging → fed_bytes r ≡ 0
-    → IsInitialHistory taken faults r sink (entries.Initial (record { requester = r; faults = faults sink; taken = taken sink }) ∷ [])
-is_initial_history taken faults r sink state fed = record {
-  initial = record { requester = r; faults = faults sink; taken = taken sink };
+pub is_initial_history : {O : Type 0} (link : O → ℕ) (taken : O → Option (List ℕ)) (faults : O → ℕ) (r : RequesterSide) (sink : O) → r ≡ opened_as 1 1 16 default_terms r.staging → fed_bytes r ≡ 0
+    → IsInitialHistory link taken faults r sink None (entries.Initial (record { requester = r; sink = record { link = link sink; faults = faults sink; taken = taken sink }; tries = None }) ∷ [])
+is_initial_history link taken faults r sink state fed = record {
+  initial = record { requester = r; sink = record { link = link sink; faults = faults sink; taken = taken sink }; tries = None };
   history_is = refl;
   requester_is = refl;
   has_memory = λ bad. none_some (sym (fresh r state) ∙ bad);
   fed = omega (arith, fed);
+  sink_link = refl;
   sink_taken = refl;
   sink_faults = refl;
+  tries_are = refl;
+  numbered = tt;
+  few = refl;
 }

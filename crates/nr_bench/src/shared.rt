@@ -3,7 +3,7 @@
 //! had no answer, since the link had ended; or nothing, if one gave another number. The arguments are the address, the number of threads, 1 to
 //! 16, and how many READs each makes.
 
-ghost use Rattle.std.specs.Prelude.{◌<◌, [], ◌∷◌, IfOk, IfSome, All};
+ghost use Rattle.std.specs.Prelude.{◌<◌, [], ◌∷◌, None, IfOk, IfSome, All};
 ghost use Rattle.nr_rpc.specs.Credential.{CanWriteCred};
 ghost use Rattle.nr_shared.specs.Opening.{IsInitialHistory};
 ghost use Rattle.nr_shared.specs.Sharing.{SharedRests};
@@ -11,7 +11,6 @@ ghost use Rattle.nr_shared.specs.Sharing.{SharedRests};
 use crate::words::number;
 use nr_links::{Dialer, LinkSink, LinkSource, TcpDialer};
 use nr_nfs_base::{NFS_PROGRAM, NFS_VERSION, NfsProcedure, Numbered};
-use nr_outside::{Sink, Source};
 use nr_reduce::{Call, Form, Outcome};
 use nr_requester::Requester;
 use nr_rpc::Cred;
@@ -39,7 +38,7 @@ enum Answer {
 
 /// A caller: its pass, the first number that it reads, and how many it reads; what these READs came to.
 #[derive(Drop)]
-struct Reader<I: Source, O: Sink> {
+struct Reader<I: LinkSource + Drop, O: LinkSink + Drop> {
     pass: Pass<I, O, AnyCall>,
     first: u32,
     count: u32,
@@ -87,7 +86,7 @@ fn answer_of(outcome: &Outcome, number: u32) -> Answer {
 }
 
 /// Reads a number.
-fn read_number<R: Wait, I: Source, O: Sink>(
+fn read_number<R: Wait, I: LinkSource + Drop, O: LinkSink + Drop>(
     rt: &R,
     alloc: Global,
     shared: &SharedRequester<I, O, AnyCall>,
@@ -108,7 +107,7 @@ fn read_number<R: Wait, I: Source, O: Sink>(
 }
 
 /// Reads the numbers of a caller, one after another.
-fn read_numbers<R: Wait, I: Source, O: Sink>(
+fn read_numbers<R: Wait, I: LinkSource + Drop, O: LinkSink + Drop>(
     rt: &R,
     alloc: Global,
     shared: &SharedRequester<I, O, AnyCall>,
@@ -131,7 +130,7 @@ fn read_numbers<R: Wait, I: Source, O: Sink>(
 }
 
 /// Each caller reads its numbers, in a thread of its own if there is one.
-fn read_all<R: Threads + Wait + Sync, I: Source + Send, O: Sink + Send>(
+fn read_all<R: Threads + Wait + Sync, I: LinkSource + Send + Drop, O: LinkSink + Send + Drop>(
     rt: &R,
     alloc: Global,
     shared: &SharedRequester<I, O, AnyCall>,
@@ -148,7 +147,7 @@ fn read_all<R: Threads + Wait + Sync, I: Source + Send, O: Sink + Send>(
 }
 
 /// A caller of each thread, with a pass of its own. Their numbers follow one another.
-fn readers_of<I: Source, O: Sink>(
+fn readers_of<I: LinkSource + Drop, O: LinkSink + Drop>(
     alloc: Global,
     shared: &SharedRequester<I, O, AnyCall>,
     pass: &mut Pass<I, O, AnyCall>,
@@ -176,7 +175,9 @@ fn readers_of<I: Source, O: Sink>(
 }
 
 /// How many READs gave their own number, and how many had no answer; none if one gave another number.
-fn totals<I: Source, O: Sink>(readers: &[Reader<I, O>]) -> Option<(u64, u64)> {
+fn totals<I: LinkSource + Drop, O: LinkSink + Drop>(
+    readers: &[Reader<I, O>],
+) -> Option<(u64, u64)> {
     let mut own = 0u64;
     let mut unanswered = 0u64;
     for reader in readers {
@@ -190,24 +191,21 @@ fn totals<I: Source, O: Sink>(readers: &[Reader<I, O>]) -> Option<(u64, u64)> {
 }
 
 /// Shares a requester. `K` is the entry of its initial state, for the proof.
-fn share<K: Appended, R: Wait, I: Source, O: Sink>(
+fn share<K: Appended, R: Wait, I: LinkSource + Drop, O: LinkSink + Drop>(
     rt: &R,
     alloc: Global,
     requester: Requester,
     source: I,
     sink: O,
 ) -> Option<(SharedRequester<I, O, AnyCall>, Pass<I, O, AnyCall>)>
-where
-    I: Drop,
-    O: Drop,
-    requires { IsInitialHistory O.taken O.faults requester sink (K.entry ∷ []) }
+    requires { IsInitialHistory O.link O.taken O.faults requester sink None (K.entry ∷ []) }
     ensures { IfSome result (λ t. SharedRests t.0 t.1) }
 {
     SharedRequester::new::<InitialHistory<K>, R>(rt, alloc, requester, source, sink, 0).ok()
 }
 
 /// Makes all READs over a link.
-fn read_over<R: Threads + Wait + Sync, I: Source, O: Sink>(
+fn read_over<R: Threads + Wait + Sync, I: LinkSource + Drop, O: LinkSink + Drop>(
     rt: &R,
     alloc: Global,
     source: I,
@@ -216,8 +214,8 @@ fn read_over<R: Threads + Wait + Sync, I: Source, O: Sink>(
     count: u32,
 ) -> Option<(u64, u64)>
 where
-    I: Drop + Send,
-    O: Drop + Send,
+    I: Send,
+    O: Send,
     requires { 0 < threads }
 {
     let requester = match Requester::open(alloc, CREDITS) {

@@ -19,8 +19,8 @@ use Rattle.nr_requester.specs.OpenCalls.{found_answer, open_call}
 use Rattle.nr_requester.specs.Standing.{StandsOn, StaysOut}
 use Rattle.nr_requester.proofs.OwnLaw.{submit_keeps_law}
 use Rattle.nr_requester.proofs.OpenTickets.{done_keeps_law, forget_keeps_law, forget_out_keeps_law}
-use Rattle.nr_client.specs.declared.call_end.CallEnd.{CallEnd}
-use Rattle.nr_client.specs.declared.call_end.CallEnd.TheVariants as calls
+use Rattle.nr_shared.specs.declared.call_end.CallEnd.{CallEnd}
+use Rattle.nr_shared.specs.declared.call_end.CallEnd.TheVariants as calls
 use Rattle.nr_client.specs.Ending.{LinkCause}
 use Rattle.nr_client.specs.Calls.{AddsForget, Answers, Completes, Forgets, GivesUp, HandsOver, IsSent, IsSubmitted, MovesOfCall, NoneCame, RefusesToSubmit, Submits, run_to_submit}
 use Rattle.nr_client.specs.Steps.{GoesOn, GoesTo, HasCreditLeft, IsLeft, IsLive, LacksAnswer, ReadsNone, WritesFirst}
@@ -191,6 +191,8 @@ unfolding after_forget
 still_caused xid (calls.Ended end) left read h i is cause = ap (λ (x : RequesterSide). x.state.side.ended) is ∙ cause
 still_caused xid calls.LinkRead left read h i is cause = (ap (λ (x : RequesterSide). x.state.side.ended) is ∙ cause.0, cause.1)
 still_caused xid calls.LinkWrite left read h i is cause = tt
+still_caused xid (calls.Tries n) left read h i is cause = absurd cause
+still_caused xid calls.DialFault left read h i is cause = absurd cause
 still_caused xid calls.Closed left read h i is cause =
     let as_many = ap (λ (x : RequesterSide). length x.state.outstanding) is ∙ length-map h.state.outstanding (forgotten_call xid) in
     let (ended, (at_end, (few, (some, none)))) = cause in

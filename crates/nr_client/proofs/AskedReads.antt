@@ -8,7 +8,7 @@ use Rattle.nr_requester.specs.declared.taking.Done.{Done}
 use Rattle.nr_turnstile.specs.declared.turnstile.Pass.{Pass}
 use Rattle.nr_turnstile.specs.Passes.{mine_of, seen_by}
 use Rattle.nr_turnstile.specs.Rule.{Begins, IsIn, IsOpen, Lies}
-use Rattle.nr_shared.specs.declared.call_end.CallEnd.{CallEnd as SharedEnd}
+use Rattle.nr_shared.specs.declared.call_end.CallEnd.{CallEnd}
 use Rattle.nr_shared.specs.declared.entry.Entry.{Entry}
 use Rattle.nr_shared.specs.declared.entry.Entry.TheVariants as entries
 use Rattle.nr_shared.specs.declared.requester_with_sink.RequesterWithSink.{RequesterWithSink}
@@ -95,7 +95,7 @@ module _ {O C : Type 0} (uid gid : ℕ) (file : List ℕ) (size : ℕ) where
         (others_asked p q k more w.adds.seen w.keeps rest, grows_adds p q (w.writes ++ entries.Done oldest.ticket done.outcome k ∷ []) w.adds),
       )
 
-  pub oldest_given_up : (p q : Pass (RequesterWithSink O C) Entry) (oldest : AskedPiece) (more : List AskedPiece) (end : SharedEnd) → GivesUp p q oldest.ticket end → AreAsked uid gid file size p (oldest ∷ more)
+  pub oldest_given_up : (p q : Pass (RequesterWithSink O C) Entry) (oldest : AskedPiece) (more : List AskedPiece) (end : CallEnd) → GivesUp p q oldest.ticket end → AreAsked uid gid file size p (oldest ∷ more)
       → AreAsked uid gid file size q more × Grows p q
   oldest_given_up p q oldest more end gives (k, (above, (is, rest))) =
       let w = gives k (read_of uid gid file size oldest) (is_call p k oldest is) is.opened in

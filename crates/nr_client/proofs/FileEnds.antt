@@ -9,21 +9,19 @@ use Rattle.nr_nfs_base.specs.declared.attributes.Attributes.{Attributes}
 use Rattle.nr_nfs_res.specs.declared.bytes.ReadOk.{ReadOk}
 use Rattle.nr_reduce.specs.declared.call.Call.{Call}
 use Rattle.nr_reduce.specs.declared.call.Outcome.{Outcome}
+use Rattle.nr_shared.specs.declared.call_end.CallEnd.{CallEnd}
 use Rattle.nr_client.specs.declared.client_end.ClientEnd.{ClientEnd}
 use Rattle.nr_client.specs.declared.client_end.ClientEnd.TheVariants as client
-use Rattle.nr_client.specs.declared.call_end.CallEnd.{CallEnd}
-use Rattle.nr_client.specs.Calls.{Answers, Completes, Forgets, ForgetsCalls, RefusesToSubmit}
-use Rattle.nr_client.specs.Ending.{IsCauseIn, LinkCause}
-use Rattle.nr_client.specs.Following.{Unanswered}
 use Rattle.nr_client.specs.Following.Next.{Returns}
-use Rattle.nr_client.specs.Reading.{EndsAtReply, EndsReading, FileRead, OpenRead, ReadingAt, ReadsFile, TakesPart, bytes_of, bytes_read, file_read, next_read, piece_left, read_call, read_result, starts_at, with_size}
+use Rattle.nr_client.specs.Reading.{EndsAtReply, FileRead, OpenRead, TakesPart, bytes_of, bytes_read, file_read, next_read, piece_left, read_call, read_result, starts_at, with_size, ReadingOver, EndsReadingOver, ReadsFileOver, ForgetsCallsOver}
 use Rattle.nr_client.specs.Reading.FileRead.{SizeKnown, ReadEnds}
-use Rattle.nr_client.specs.Reading.ReadStep.{MakesAlone, TakesOldest}
-use Rattle.nr_client.specs.Reading.EndsReading.{EndsByReplies, OutputFails, NotAnswered, NotSubmitted, OldestForgotten}
-use Rattle.nr_client.specs.Requests.{Asks, getattr_call, getattr_result}
+use Rattle.nr_client.specs.Reading.ReadStepOver.{MakesAlone, TakesOldest}
+use Rattle.nr_client.specs.Reading.EndsReadingOver.{EndsByReplies, OutputFails, NotAnswered, NotSubmitted, OldestForgotten}
+use Rattle.nr_client.specs.Requests.{getattr_call, getattr_result, AsksOver}
 use Rattle.nr_client.specs.Results.{Gives}
-use Rattle.nr_client.specs.Views.{LinkView}
 use Rattle.nr_client.specs.private.OpenReads.{GivesNone, HasEnded, IsFull, IsInPiece, MayAsk, ReadSoFar, ReadsAhead, reads_from}
+use Rattle.nr_client.specs.Relations.{CallRelations}
+use Rattle.nr_client.specs.Following.{UnansweredOver}
 use Rattle.nr_client.proofs.CallsMade.{end_in, end_of_reply}
 use Rattle.nr_client.proofs.FilePieces.{xids_from}
 use Rattle.nr_client.proofs.FileReading.{came_with, follows, is_ahead, is_alone, moment, none_ahead}
@@ -37,9 +35,9 @@ took_nothing : (t u v : Option (List ℕ)) (bytes : List ℕ) → Appends t u by
 took_nothing t u v bytes first none = subst (λ (l : List ℕ). Appends t v l) (append-nil bytes) (Appends-trans t u v bytes [] first none)
 
 -- all was read
-pub all_read : (uid gid : ℕ) (file : List ℕ) (size at from : ℕ) (xids : List ℕ) (first : ReadingAt) (t u : Option (List ℕ)) (b : LinkView)
-    → size ≤ at → ReadSoFar uid gid file size first t at from xids b u → HasEnded uid gid file first t xids b u (Ok tt)
-all_read uid gid file size at from xids first t u b above so_far =
+pub all_read : {V : Type 0} (rel : CallRelations V) (uid gid : ℕ) (file : List ℕ) (size at from : ℕ) (xids : List ℕ) (first : ReadingOver V) (t u : Option (List ℕ)) (b : V)
+    → size ≤ at → ReadSoFar rel uid gid file size first t at from xids b u → HasEnded rel uid gid file first t xids b u (Ok tt)
+all_read {V} rel uid gid file size at from xids first t u b above so_far =
     let returns : next_read uid gid file (SizeKnown size at so_far.bytes) ≡ Returns (Ok tt) = rw (le-ltb at size above) refl in
     record {
       between = so_far.between;
@@ -52,9 +50,9 @@ all_read uid gid file size at from xids first t u b above so_far =
     }
 
 -- memory ran out before a call was made
-pub out_before : (uid gid : ℕ) (file : List ℕ) (size at from : ℕ) (xids : List ℕ) (first : ReadingAt) (t u : Option (List ℕ)) (b : LinkView)
-    → ReadSoFar uid gid file size first t at from xids b u → HasEnded uid gid file first t xids b u (Err client.Memory)
-out_before uid gid file size at from xids first t u b so_far =
+pub out_before : {V : Type 0} (rel : CallRelations V) (uid gid : ℕ) (file : List ℕ) (size at from : ℕ) (xids : List ℕ) (first : ReadingOver V) (t u : Option (List ℕ)) (b : V)
+    → ReadSoFar rel uid gid file size first t at from xids b u → HasEnded rel uid gid file first t xids b u (Err client.Memory)
+out_before {V} rel uid gid file size at from xids first t u b so_far =
     record {
       between = so_far.between;
       last = moment so_far.outcomes (reads_from uid gid file size from xids) b;
@@ -65,11 +63,11 @@ out_before uid gid file size at from xids first t u b so_far =
     }
 
 -- a READ was not submitted
-pub not_submitted : (uid gid : ℕ) (file : List ℕ) (size at next : ℕ) (xids : List ℕ) (end : CallEnd) (first : ReadingAt) (t u : Option (List ℕ)) (b c : LinkView)
-    → at < size → ReadsAhead b.requester size at next xids → MayAsk size next xids b.requester
-    → RefusesToSubmit b c (read_call uid gid file next (piece_left size next)) end → IsCauseIn end c (read_call uid gid file next (piece_left size next))
-    → ReadSoFar uid gid file size first t at at xids b u → HasEnded uid gid file first t xids c u (Err (client.Link end))
-not_submitted uid gid file size at next xids end first t u b c below ahead may refuses cause so_far =
+pub not_submitted : {V : Type 0} (rel : CallRelations V) (uid gid : ℕ) (file : List ℕ) (size at next : ℕ) (xids : List ℕ) (end : CallEnd) (first : ReadingOver V) (t u : Option (List ℕ)) (b c : V)
+    → at < size → ReadsAhead rel b size at next xids → MayAsk rel size next xids b
+    → rel.refuses b c (read_call uid gid file next (piece_left size next)) end
+    → ReadSoFar rel uid gid file size first t at at xids b u → HasEnded rel uid gid file first t xids c u (Err (client.Link end))
+not_submitted {V} rel uid gid file size at next xids end first t u b c below ahead may refuses so_far =
     record {
       between = so_far.between;
       last = moment so_far.outcomes (reads_from uid gid file size at xids) b;
@@ -77,15 +75,15 @@ not_submitted uid gid file size at next xids end first t u b c below ahead may r
       left = reads_from uid gid file size at xids;
       same = xids_from uid gid file size at xids;
       ends = NotSubmitted (read_call uid gid file next (piece_left size next)) end
-          (is_ahead uid gid file size at next xids so_far.bytes so_far.outcomes b below so_far.state ahead may) refl (refuses, cause) refl
+          (is_ahead rel uid gid file size at next xids so_far.bytes so_far.outcomes b below so_far.state ahead may) refl refuses refl
           (inl (takes_bytes so_far.outcomes (SizeKnown size at so_far.bytes) t u so_far.state so_far.appends));
     }
 
 -- the oldest READ has no answer
-pub oldest_forgotten : (uid gid : ℕ) (file : List ℕ) (size at next : ℕ) (xid : ℕ) (xids : List ℕ) (end : CallEnd) (first : ReadingAt) (t u : Option (List ℕ)) (b c : LinkView)
-    → at < size → ReadsAhead b.requester size at next (xid ∷ xids) → IsFull size next (xid ∷ xids) b.requester → Forgets xid end b c → LinkCause end c.bytes.left c.bytes.read c.requester
-    → ReadSoFar uid gid file size first t at at (xid ∷ xids) b u → HasEnded uid gid file first t xids c u (Err (client.Link end))
-oldest_forgotten uid gid file size at next xid xids end first t u b c below ahead full forgets cause so_far =
+pub oldest_forgotten : {V : Type 0} (rel : CallRelations V) (uid gid : ℕ) (file : List ℕ) (size at next : ℕ) (xid : ℕ) (xids : List ℕ) (end : CallEnd) (first : ReadingOver V) (t u : Option (List ℕ)) (b c : V)
+    → at < size → ReadsAhead rel b size at next (xid ∷ xids) → IsFull rel size next (xid ∷ xids) b → rel.forgets xid end b c
+    → ReadSoFar rel uid gid file size first t at at (xid ∷ xids) b u → HasEnded rel uid gid file first t xids c u (Err (client.Link end))
+oldest_forgotten {V} rel uid gid file size at next xid xids end first t u b c below ahead full forgets so_far =
     record {
       between = so_far.between;
       last = moment so_far.outcomes (reads_from uid gid file size at (xid ∷ xids)) b;
@@ -93,16 +91,16 @@ oldest_forgotten uid gid file size at next xid xids end first t u b c below ahea
       left = reads_from uid gid file size (at + piece_left size at) xids;
       same = xids_from uid gid file size (at + piece_left size at) xids;
       ends = OldestForgotten (record { xid = xid; call = read_call uid gid file at (piece_left size at) }) end
-          (none_ahead uid gid file size at next (xid ∷ xids) so_far.bytes so_far.outcomes b so_far.state ahead full)
-          (follows uid gid file size at so_far.bytes so_far.outcomes below so_far.state) refl (forgets, cause) refl
+          (none_ahead rel uid gid file size at next (xid ∷ xids) so_far.bytes so_far.outcomes b so_far.state ahead full)
+          (follows uid gid file size at so_far.bytes so_far.outcomes below so_far.state) refl forgets refl
           (inl (takes_bytes so_far.outcomes (SizeKnown size at so_far.bytes) t u so_far.state so_far.appends));
     }
 
 -- a READ of the rest of a piece has no answer
-pub not_answered : (uid gid : ℕ) (file : List ℕ) (size at end count from : ℕ) (xids : List ℕ) (why : ClientEnd) (first : ReadingAt) (t u : Option (List ℕ)) (b c : LinkView)
-    → at < size → at < end → IsInPiece size at end → count ≡ piece_left size at → Unanswered (read_call uid gid file at count) b c why
-    → ReadSoFar uid gid file size first t at from xids b u → HasEnded uid gid file first t xids c u (Err why)
-not_answered uid gid file size at end count from xids why first t u b c below within piece same unanswered so_far =
+pub not_answered : {V : Type 0} (rel : CallRelations V) (uid gid : ℕ) (file : List ℕ) (size at end count from : ℕ) (xids : List ℕ) (why : ClientEnd) (first : ReadingOver V) (t u : Option (List ℕ)) (b c : V)
+    → at < size → at < end → IsInPiece size at end → count ≡ piece_left size at → UnansweredOver rel (read_call uid gid file at count) b c why
+    → ReadSoFar rel uid gid file size first t at from xids b u → HasEnded rel uid gid file first t xids c u (Err why)
+not_answered {V} rel uid gid file size at end count from xids why first t u b c below within piece same unanswered so_far =
     let waiting = reads_from uid gid file size from xids in
     record {
       between = so_far.between;
@@ -110,8 +108,8 @@ not_answered uid gid file size at end count from xids why first t u b c below wi
       made = so_far.made;
       left = waiting;
       same = xids_from uid gid file size from xids;
-      ends = NotAnswered (read_call uid gid file at (piece_left size at)) why (is_alone uid gid file size at end waiting so_far.bytes so_far.outcomes b below within piece so_far.state) refl
-          (subst (λ (n : ℕ). Unanswered (read_call uid gid file at n) b c why) same unanswered) refl
+      ends = NotAnswered (read_call uid gid file at (piece_left size at)) why (is_alone rel uid gid file size at end waiting so_far.bytes so_far.outcomes b below within piece so_far.state) refl
+          (subst (λ (n : ℕ). UnansweredOver rel (read_call uid gid file at n) b c why) same unanswered) refl
           (inl (takes_bytes so_far.outcomes (SizeKnown size at so_far.bytes) t u so_far.state so_far.appends));
     }
 
@@ -163,92 +161,92 @@ at_reply uid gid file size at count bytes outcomes outcome why t u v same state 
 at_reply uid gid file size at count bytes outcomes outcome why t u v same state appends (inr (is, (results, n, (reads, (short, part))))) =
     inr (ap (λ (e : ClientEnd). Err e) is, at_part uid gid file size at bytes outcomes outcome t u v results n state appends (subst (λ (k : ℕ). read_result k outcome ≡ Ok results) same reads) short part)
 
-of_reply : (uid gid : ℕ) (file : List ℕ) (outcomes : List Outcome) (waiting : List OpenRead) (t v : Option (List ℕ)) (b : LinkView) (given : Result (Unit {0}) ClientEnd)
-    → EndsAtReply uid gid file outcomes t v given → EndsReading uid gid file (moment outcomes waiting b) waiting b t v given
-of_reply uid gid file outcomes waiting t v b given (inl (why, took)) = EndsByReplies refl why refl took
-of_reply uid gid file outcomes waiting t v b given (inr (is, part)) = OutputFails is refl refl part
+of_reply : {V : Type 0} (rel : CallRelations V) (uid gid : ℕ) (file : List ℕ) (outcomes : List Outcome) (waiting : List OpenRead) (t v : Option (List ℕ)) (b : V) (given : Result (Unit {0}) ClientEnd)
+    → EndsAtReply uid gid file outcomes t v given → EndsReadingOver rel uid gid file (moment outcomes waiting b) waiting b t v given
+of_reply {V} rel uid gid file outcomes waiting t v b given (inl (why, took)) = EndsByReplies refl why refl took
+of_reply {V} rel uid gid file outcomes waiting t v b given (inr (is, part)) = OutputFails is refl refl part
 
-ends_data : (uid gid : ℕ) (file : List ℕ) (size at count : ℕ) (bytes : List ℕ) (outcomes : List Outcome) (outcome : Outcome) (waiting : List OpenRead) (why : ClientEnd) (t u v : Option (List ℕ)) (b : LinkView)
+ends_data : {V : Type 0} (rel : CallRelations V) (uid gid : ℕ) (file : List ℕ) (size at count : ℕ) (bytes : List ℕ) (outcomes : List Outcome) (outcome : Outcome) (waiting : List OpenRead) (why : ClientEnd) (t u v : Option (List ℕ)) (b : V)
     → count ≡ piece_left size at → file_read outcomes ≡ SizeKnown size at bytes → Appends t u bytes → GivesNone count outcome why u v
-    → EndsReading uid gid file (moment (outcomes ++ outcome ∷ []) waiting b) waiting b t v (Err why)
-ends_data uid gid file size at count bytes outcomes outcome waiting why t u v b same state appends gives =
-    of_reply uid gid file (outcomes ++ outcome ∷ []) waiting t v b (Err why) (at_reply uid gid file size at count bytes outcomes outcome why t u v same state appends gives)
+    → EndsReadingOver rel uid gid file (moment (outcomes ++ outcome ∷ []) waiting b) waiting b t v (Err why)
+ends_data {V} rel uid gid file size at count bytes outcomes outcome waiting why t u v b same state appends gives =
+    of_reply rel uid gid file (outcomes ++ outcome ∷ []) waiting t v b (Err why) (at_reply uid gid file size at count bytes outcomes outcome why t u v same state appends gives)
 
 -- of the oldest READ, and of one of the rest of a piece
-pub oldest_fails : (uid gid : ℕ) (file : List ℕ) (size at next count : ℕ) (xid : ℕ) (xids : List ℕ) (outcome : Outcome) (why : ClientEnd) (first : ReadingAt) (t u v : Option (List ℕ)) (b c : LinkView)
-    → at < size → ReadsAhead b.requester size at next (xid ∷ xids) → IsFull size next (xid ∷ xids) b.requester → count ≡ piece_left size at → Completes xid outcome b c → GivesNone count outcome why u v
-    → ReadSoFar uid gid file size first t at at (xid ∷ xids) b u → HasEnded uid gid file first t xids c v (Err why)
-oldest_fails uid gid file size at next count xid xids outcome why first t u v b c below ahead full same completes gives so_far =
+pub oldest_fails : {V : Type 0} (rel : CallRelations V) (uid gid : ℕ) (file : List ℕ) (size at next count : ℕ) (xid : ℕ) (xids : List ℕ) (outcome : Outcome) (why : ClientEnd) (first : ReadingOver V) (t u v : Option (List ℕ)) (b c : V)
+    → at < size → ReadsAhead rel b size at next (xid ∷ xids) → IsFull rel size next (xid ∷ xids) b → count ≡ piece_left size at → rel.completes xid outcome b c → GivesNone count outcome why u v
+    → ReadSoFar rel uid gid file size first t at at (xid ∷ xids) b u → HasEnded rel uid gid file first t xids c v (Err why)
+oldest_fails {V} rel uid gid file size at next count xid xids outcome why first t u v b c below ahead full same completes gives so_far =
     let waiting = reads_from uid gid file size (at + piece_left size at) xids in
     record {
       between = moment so_far.outcomes (reads_from uid gid file size at (xid ∷ xids)) b ∷ so_far.between;
       last = moment (so_far.outcomes ++ outcome ∷ []) waiting c;
       made = (
         TakesOldest (record { xid = xid; call = read_call uid gid file at (piece_left size at) }) outcome
-            (none_ahead uid gid file size at next (xid ∷ xids) so_far.bytes so_far.outcomes b so_far.state ahead full)
+            (none_ahead rel uid gid file size at next (xid ∷ xids) so_far.bytes so_far.outcomes b so_far.state ahead full)
             (follows uid gid file size at so_far.bytes so_far.outcomes below so_far.state) completes refl refl,
         so_far.made,
       );
       left = waiting;
       same = xids_from uid gid file size (at + piece_left size at) xids;
-      ends = ends_data uid gid file size at count so_far.bytes so_far.outcomes outcome waiting why t u v c same so_far.state so_far.appends gives;
+      ends = ends_data rel uid gid file size at count so_far.bytes so_far.outcomes outcome waiting why t u v c same so_far.state so_far.appends gives;
     }
 
-pub alone_fails : (uid gid : ℕ) (file : List ℕ) (size at end count from : ℕ) (xids : List ℕ) (outcome : Outcome) (why : ClientEnd) (first : ReadingAt) (t u v : Option (List ℕ)) (b c : LinkView)
-    → at < size → at < end → IsInPiece size at end → count ≡ piece_left size at → Answers b c (read_call uid gid file at count) outcome → GivesNone count outcome why u v
-    → ReadSoFar uid gid file size first t at from xids b u → HasEnded uid gid file first t xids c v (Err why)
-alone_fails uid gid file size at end count from xids outcome why first t u v b c below within piece same answered gives so_far =
+pub alone_fails : {V : Type 0} (rel : CallRelations V) (uid gid : ℕ) (file : List ℕ) (size at end count from : ℕ) (xids : List ℕ) (outcome : Outcome) (why : ClientEnd) (first : ReadingOver V) (t u v : Option (List ℕ)) (b c : V)
+    → at < size → at < end → IsInPiece size at end → count ≡ piece_left size at → rel.answers b c (read_call uid gid file at count) outcome → GivesNone count outcome why u v
+    → ReadSoFar rel uid gid file size first t at from xids b u → HasEnded rel uid gid file first t xids c v (Err why)
+alone_fails {V} rel uid gid file size at end count from xids outcome why first t u v b c below within piece same answered gives so_far =
     let waiting = reads_from uid gid file size from xids in
-    let alone : Answers b c (read_call uid gid file at (piece_left size at)) outcome = subst (λ (n : ℕ). Answers b c (read_call uid gid file at n) outcome) same answered in
+    let alone : rel.answers b c (read_call uid gid file at (piece_left size at)) outcome = subst (λ (n : ℕ). rel.answers b c (read_call uid gid file at n) outcome) same answered in
     record {
       between = moment so_far.outcomes waiting b ∷ so_far.between;
       last = moment (so_far.outcomes ++ outcome ∷ []) waiting c;
       made = (
-        MakesAlone (read_call uid gid file at (piece_left size at)) outcome (is_alone uid gid file size at end waiting so_far.bytes so_far.outcomes b below within piece so_far.state) alone refl refl,
+        MakesAlone (read_call uid gid file at (piece_left size at)) outcome (is_alone rel uid gid file size at end waiting so_far.bytes so_far.outcomes b below within piece so_far.state) alone refl refl,
         so_far.made,
       );
       left = waiting;
       same = xids_from uid gid file size from xids;
-      ends = ends_data uid gid file size at count so_far.bytes so_far.outcomes outcome waiting why t u v c same so_far.state so_far.appends gives;
+      ends = ends_data rel uid gid file size at count so_far.bytes so_far.outcomes outcome waiting why t u v c same so_far.state so_far.appends gives;
     }
 
-pub forgotten_from : (uid gid : ℕ) (file : List ℕ) (size at next : ℕ) (xid : ℕ) (xs xids : List ℕ) (end : CallEnd) (first : ReadingAt) (t u : Option (List ℕ)) (b c : LinkView)
-    → xs ≡ xid ∷ xids → at < size → ReadsAhead b.requester size at next xs → IsFull size next xs b.requester → Forgets xid end b c → LinkCause end c.bytes.left c.bytes.read c.requester
-    → ReadSoFar uid gid file size first t at at xs b u → HasEnded uid gid file first t xids c u (Err (client.Link end))
-forgotten_from uid gid file size at next xid xs xids end first t u b c is below ahead full forgets cause so_far =
-    oldest_forgotten uid gid file size at next xid xids end first t u b c below
-    (subst (λ (l : List ℕ). ReadsAhead b.requester size at next l) is ahead) (subst (λ (l : List ℕ). IsFull size next l b.requester) is full) forgets cause
-    (subst (λ (l : List ℕ). ReadSoFar uid gid file size first t at at l b u) is so_far)
+pub forgotten_from : {V : Type 0} (rel : CallRelations V) (uid gid : ℕ) (file : List ℕ) (size at next : ℕ) (xid : ℕ) (xs xids : List ℕ) (end : CallEnd) (first : ReadingOver V) (t u : Option (List ℕ)) (b c : V)
+    → xs ≡ xid ∷ xids → at < size → ReadsAhead rel b size at next xs → IsFull rel size next xs b → rel.forgets xid end b c
+    → ReadSoFar rel uid gid file size first t at at xs b u → HasEnded rel uid gid file first t xids c u (Err (client.Link end))
+forgotten_from {V} rel uid gid file size at next xid xs xids end first t u b c is below ahead full forgets so_far =
+    oldest_forgotten rel uid gid file size at next xid xids end first t u b c below
+    (subst (λ (l : List ℕ). ReadsAhead rel b size at next l) is ahead) (subst (λ (l : List ℕ). IsFull rel size next l b) is full) forgets
+    (subst (λ (l : List ℕ). ReadSoFar rel uid gid file size first t at at l b u) is so_far)
 
-pub fails_from : (uid gid : ℕ) (file : List ℕ) (size at next count : ℕ) (xid : ℕ) (xs xids : List ℕ) (outcome : Outcome) (why : ClientEnd) (first : ReadingAt) (t u v : Option (List ℕ)) (b c : LinkView)
-    → xs ≡ xid ∷ xids → at < size → ReadsAhead b.requester size at next xs → IsFull size next xs b.requester → count ≡ piece_left size at → Completes xid outcome b c → GivesNone count outcome why u v
-    → ReadSoFar uid gid file size first t at at xs b u → HasEnded uid gid file first t xids c v (Err why)
-fails_from uid gid file size at next count xid xs xids outcome why first t u v b c is below ahead full same completes gives so_far =
-    oldest_fails uid gid file size at next count xid xids outcome why first t u v b c below
-    (subst (λ (l : List ℕ). ReadsAhead b.requester size at next l) is ahead) (subst (λ (l : List ℕ). IsFull size next l b.requester) is full) same completes gives
-    (subst (λ (l : List ℕ). ReadSoFar uid gid file size first t at at l b u) is so_far)
+pub fails_from : {V : Type 0} (rel : CallRelations V) (uid gid : ℕ) (file : List ℕ) (size at next count : ℕ) (xid : ℕ) (xs xids : List ℕ) (outcome : Outcome) (why : ClientEnd) (first : ReadingOver V) (t u v : Option (List ℕ)) (b c : V)
+    → xs ≡ xid ∷ xids → at < size → ReadsAhead rel b size at next xs → IsFull rel size next xs b → count ≡ piece_left size at → rel.completes xid outcome b c → GivesNone count outcome why u v
+    → ReadSoFar rel uid gid file size first t at at xs b u → HasEnded rel uid gid file first t xids c v (Err why)
+fails_from {V} rel uid gid file size at next count xid xs xids outcome why first t u v b c is below ahead full same completes gives so_far =
+    oldest_fails rel uid gid file size at next count xid xids outcome why first t u v b c below
+    (subst (λ (l : List ℕ). ReadsAhead rel b size at next l) is ahead) (subst (λ (l : List ℕ). IsFull rel size next l b) is full) same completes gives
+    (subst (λ (l : List ℕ). ReadSoFar rel uid gid file size first t at at l b u) is so_far)
 
-pub not_submitted_from : (uid gid : ℕ) (file : List ℕ) (size at next count : ℕ) (xids ys : List ℕ) (call : Call) (end : CallEnd) (first : ReadingAt) (t u : Option (List ℕ)) (b c : LinkView)
-    → ys ≡ xids → call ≡ read_call uid gid file next count → count ≡ piece_left size next → at < size → ReadsAhead b.requester size at next xids → MayAsk size next xids b.requester
-    → RefusesToSubmit b c call end → IsCauseIn end c call
-    → ReadSoFar uid gid file size first t at at xids b u → HasEnded uid gid file first t ys c u (Err (client.Link end))
-not_submitted_from uid gid file size at next count xids ys call end first t u b c all is same below ahead may refuses cause so_far =
+pub not_submitted_from : {V : Type 0} (rel : CallRelations V) (uid gid : ℕ) (file : List ℕ) (size at next count : ℕ) (xids ys : List ℕ) (call : Call) (end : CallEnd) (first : ReadingOver V) (t u : Option (List ℕ)) (b c : V)
+    → ys ≡ xids → call ≡ read_call uid gid file next count → count ≡ piece_left size next → at < size → ReadsAhead rel b size at next xids → MayAsk rel size next xids b
+    → rel.refuses b c call end
+    → ReadSoFar rel uid gid file size first t at at xids b u → HasEnded rel uid gid file first t ys c u (Err (client.Link end))
+not_submitted_from {V} rel uid gid file size at next count xids ys call end first t u b c all is same below ahead may refuses so_far =
     let asked : call ≡ read_call uid gid file next (piece_left size next) = is ∙ ap (read_call uid gid file next) same in
-    subst (λ (l : List ℕ). HasEnded uid gid file first t l c u (Err (client.Link end))) (sym all)
-    (not_submitted uid gid file size at next xids end first t u b c below ahead may
-    (subst (λ (a : Call). RefusesToSubmit b c a end) asked refuses) (subst (λ (a : Call). IsCauseIn end c a) asked cause) so_far)
+    subst (λ (l : List ℕ). HasEnded rel uid gid file first t l c u (Err (client.Link end))) (sym all)
+    (not_submitted rel uid gid file size at next xids end first t u b c below ahead may
+    (subst (λ (a : Call). rel.refuses b c a end) asked refuses) so_far)
 
-pub out_before_from : (uid gid : ℕ) (file : List ℕ) (size at from : ℕ) (xids ys : List ℕ) (first : ReadingAt) (t u : Option (List ℕ)) (b : LinkView)
-    → ys ≡ xids → ReadSoFar uid gid file size first t at from xids b u → HasEnded uid gid file first t ys b u (Err client.Memory)
-out_before_from uid gid file size at from xids ys first t u b all so_far =
-    subst (λ (l : List ℕ). HasEnded uid gid file first t l b u (Err client.Memory)) (sym all) (out_before uid gid file size at from xids first t u b so_far)
+pub out_before_from : {V : Type 0} (rel : CallRelations V) (uid gid : ℕ) (file : List ℕ) (size at from : ℕ) (xids ys : List ℕ) (first : ReadingOver V) (t u : Option (List ℕ)) (b : V)
+    → ys ≡ xids → ReadSoFar rel uid gid file size first t at from xids b u → HasEnded rel uid gid file first t ys b u (Err client.Memory)
+out_before_from {V} rel uid gid file size at from xids ys first t u b all so_far =
+    subst (λ (l : List ℕ). HasEnded rel uid gid file first t l b u (Err client.Memory)) (sym all) (out_before rel uid gid file size at from xids first t u b so_far)
 
 -- ---- All of it
 
 -- the READs that are left are forgotten
-pub read_and_forgot : (uid gid : ℕ) (file : List ℕ) (xids : List ℕ) (b c d : LinkView) (t u : Option (List ℕ)) (given : Result (Unit {0}) ClientEnd)
-    → HasEnded uid gid file (starts_at b) t xids c u given → ForgetsCalls xids c d → ReadsFile uid gid file b d t u given
-read_and_forgot uid gid file xids b c d t u given ended forgets =
+pub read_and_forgot : {V : Type 0} (rel : CallRelations V) (uid gid : ℕ) (file : List ℕ) (xids : List ℕ) (b c d : V) (t u : Option (List ℕ)) (given : Result (Unit {0}) ClientEnd)
+    → HasEnded rel uid gid file (starts_at b) t xids c u given → ForgetsCallsOver rel xids c d → ReadsFileOver rel uid gid file b d t u given
+read_and_forgot {V} rel uid gid file xids b c d t u given ended forgets =
     record {
       between = ended.between;
       last = ended.last;
@@ -256,13 +254,13 @@ read_and_forgot uid gid file xids b c d t u given ended forgets =
       left = ended.left;
       ended = c;
       ends = ended.ends;
-      forgets = subst (λ (l : List ℕ). ForgetsCalls l c d) (sym ended.same) forgets;
+      forgets = subst (λ (l : List ℕ). ForgetsCallsOver rel l c d) (sym ended.same) forgets;
     }
 
 -- the size did not come
-pub size_failed : (uid gid : ℕ) (file : List ℕ) (b c : LinkView) (t : Option (List ℕ)) (end : ClientEnd)
-    → Asks {A = Attributes} getattr_result (getattr_call uid gid file) b c (Err end) → ReadsFile uid gid file b c t t (Err end)
-size_failed uid gid file b c t end (inl (outcome, (answered, gives))) =
+pub size_failed : {V : Type 0} (rel : CallRelations V) (uid gid : ℕ) (file : List ℕ) (b c : V) (t : Option (List ℕ)) (end : ClientEnd)
+    → AsksOver {A = Attributes} rel getattr_result (getattr_call uid gid file) b c (Err end) → ReadsFileOver rel uid gid file b c t t (Err end)
+size_failed {V} rel uid gid file b c t end (inl (outcome, (answered, gives))) =
     record {
       between = starts_at b ∷ [];
       last = moment (outcome ∷ []) [] c;
@@ -274,13 +272,13 @@ size_failed uid gid file b c t end (inl (outcome, (answered, gives))) =
     }
   where
     by : (end ≡ client.Memory) ⊎ ((getattr_result outcome ≡ Err end) × Gives {A = Unit {0}} (Err end) (Err end))
-        → EndsReading uid gid file (moment (outcome ∷ []) [] c) [] c t t (Err end)
+        → EndsReadingOver rel uid gid file (moment (outcome ∷ []) [] c) [] c t t (Err end)
     by (inl memory) =
         EndsByReplies refl (inl (ap (λ (e : ClientEnd). Err e) memory)) refl (inr (ap (λ (e : ClientEnd). Err e) memory, ([], outcome, (refl, Appends-nil t))))
     by (inr (reads, same)) =
         EndsByReplies refl (inr (ap (λ (r : Result Attributes ClientEnd). next_read uid gid file (with_size r)) reads)) refl
         (inl (takes_bytes (outcome ∷ []) (ReadEnds end []) t t (ap with_size reads) (Appends-nil t)))
-size_failed uid gid file b c t end (inr (inl (cause, (is, rest)))) =
+size_failed {V} rel uid gid file b c t end (inr (inl (cause, (is, rest)))) =
     record {
       between = [];
       last = starts_at b;
@@ -290,7 +288,7 @@ size_failed uid gid file b c t end (inr (inl (cause, (is, rest)))) =
       ends = NotAnswered (getattr_call uid gid file) (client.Link cause) (refl, refl) (ap (λ (e : ClientEnd). Err e) (ap (end_in {A = Attributes}) is)) (inl (cause, (refl, rest))) refl (inl (Appends-nil t));
       forgets = refl;
     }
-size_failed uid gid file b c t end (inr (inr (is, rest))) =
+size_failed {V} rel uid gid file b c t end (inr (inr (is, rest))) =
     record {
       between = [];
       last = starts_at b;

@@ -3,10 +3,10 @@ use Rattle.std.proofs.Common.{◌≡◌, ℕ, ◌+◌, ◌*◌, ◌/◌, ◌%◌
 use Rattle.std.proofs.lemmas.Bool.{cases_lt, eq-eqb, ne_eqb, lt-ltb, le-ltb}
 use Rattle.std.proofs.lemmas.Nat.{div-add-mod', mod-mul-add, mod_below}
 use Rattle.nr_nfs_base.specs.Limits.{transfer_max}
-use Rattle.nr_requester.specs.RequesterState.{RequesterSide}
 use Rattle.nr_client.specs.Reading.{OpenRead, is_at_piece, offset_ahead, piece_left, read_ahead, read_call, xids_of}
 use Rattle.nr_client.specs.Reading.FileRead.{SizeKnown}
 use Rattle.nr_client.specs.private.OpenReads.{AreOpen, IsAtPiece, IsFull, IsInPiece, ReadsAhead, next_offset, reads_from}
+use Rattle.nr_client.specs.Relations.{CallRelations}
 
 -- ---- Offsets within a piece
 
@@ -113,15 +113,15 @@ asks_none uid gid file size at next xids bytes above is =
     rw (here) (rw (le-ltb next size above) refl)
 
 -- some READ is outstanding if no more are asked for
-pub some_ahead : (h i : RequesterSide) (size at next : ℕ) (xids : List ℕ) → at < size → ReadsAhead h size at next xids → IsFull size next xids i → 0 < length xids
-some_ahead h i size at next [] below ahead (inl above) = absurd (let is = ahead.next_is in omega (arith, below, above, is))
-some_ahead h i size at next (xid ∷ xids) below ahead (inl above) = omega arith
-some_ahead h i size at next xids below ahead (inr (some, rest)) = some
+pub some_ahead : {V : Type 0} (rel : CallRelations V) (v w : V) (size at next : ℕ) (xids : List ℕ) → at < size → ReadsAhead rel v size at next xids → IsFull rel size next xids w → 0 < length xids
+some_ahead {V} rel v w size at next [] below ahead (inl above) = absurd (let is = ahead.next_is in omega (arith, below, above, is))
+some_ahead {V} rel v w size at next (xid ∷ xids) below ahead (inl above) = omega arith
+some_ahead {V} rel v w size at next xids below ahead (inr (some, rest)) = some
 
 -- after a piece READs of the later ones are outstanding
-pub piece_done : (h i : RequesterSide) (size at at' count next : ℕ) (xids ys : List ℕ) → at < size → at' ≡ at + count → count ≡ piece_left size at
-    → next_offset size (at + piece_left size at) ys ≡ next_offset size at xids → ReadsAhead h size at next xids → AreOpen i.state ys → ReadsAhead i size at' next ys
-piece_done h i size at at' count next xids ys below goes same moves ahead are =
+pub piece_done : {V : Type 0} (rel : CallRelations V) (v w : V) (size at at' count next : ℕ) (xids ys : List ℕ) → at < size → at' ≡ at + count → count ≡ piece_left size at
+    → next_offset size (at + piece_left size at) ys ≡ next_offset size at xids → ReadsAhead rel v size at next xids → AreOpen rel w ys → ReadsAhead rel w size at' next ys
+piece_done {V} rel v w size at at' count next xids ys below goes same moves ahead are =
     let ends : at + piece_left size at ≡ at' = ap (λ (n : ℕ). at + n) (sym same) ∙ sym goes in
     record {
       piece = subst (λ (k : ℕ). IsAtPiece size k) ends (at_next_piece size at below ahead.piece);

@@ -10,17 +10,17 @@ use Rattle.nr_outside.proofs.Moves.{HandsOut_append}
 use Rattle.nr_reduce.specs.declared.call.Outcome.{Outcome}
 use Rattle.nr_client.specs.declared.client_end.ClientEnd.{ClientEnd}
 use Rattle.nr_client.specs.declared.client_end.ClientEnd.TheVariants as client
-use Rattle.nr_client.specs.Following.{EndsWith, Follows, MakesCalls}
 use Rattle.nr_client.specs.Following.Next.{Calls, Returns}
-use Rattle.nr_client.specs.Requests.{Asks}
 use Rattle.nr_client.specs.Results.{Gives, IsOfCall}
-use Rattle.nr_client.specs.Views.{LinkView}
 use Rattle.nr_outside.specs.Whole.{input_max}
-use Rattle.nr_client.specs.Writing.{EndsWriting, FileWrite, IsRead, IsReadAhead, IsStopped, StopsAtFault, WritesFile, after_write_reply, create_call, created_file, file_write, next_write, piece_at, with_count, with_handle, write_call, write_end, write_result, writing}
-use Rattle.nr_client.specs.Writing.EndsWriting.{FollowsInput, InputFails}
+use Rattle.nr_client.specs.Writing.{FileWrite, IsRead, IsReadAhead, IsStopped, StopsAtFault, after_write_reply, create_call, created_file, file_write, next_write, piece_at, with_count, with_handle, write_call, write_end, write_result, writing, WritesFileOver, EndsWritingOver}
+use Rattle.nr_client.specs.Writing.EndsWritingOver.{FollowsInput, InputFails}
 use Rattle.nr_client.specs.Writing.FileWrite.{Created, NotCreated}
 use Rattle.nr_client.specs.private.FileSteps.{FailsToWrite, StreamsOn, StreamsSoFar, StreamsTo, WriteSoFar, WritesOn}
 use Rattle.nr_client.specs.private.InputWindows.{EndsAt, IsFull, IsOfInput, IsReadyAt, MayFollow, TakesMore, WindowState, wanted_at}
+use Rattle.nr_client.specs.Relations.{CallRelations}
+use Rattle.nr_client.specs.Requests.{AsksOver}
+use Rattle.nr_client.specs.Following.{FollowsOver, MakesCallsOver, EndsWithOver}
 use Rattle.nr_client.proofs.CallsMade.{calls_more, ends_answered, ends_done, ends_unanswered, follows_asked, memory_ends}
 
 write_is : (uid gid : ℕ) (dir name input file : List ℕ) (at : ℕ) → at < length (take input_max input)
@@ -37,45 +37,45 @@ written_after : (input : List ℕ) (outcomes : List Outcome) (outcome : Outcome)
 written_after input outcomes outcome state is =
     fold-append (after_write_reply input) NotCreated outcomes (outcome ∷ []) ∙ ap (λ (s : FileWrite). after_write_reply input s outcome) is
 
-next_call : (uid gid : ℕ) (dir name input : List ℕ) (b c : LinkView) (file bytes : List ℕ) (at : ℕ) → at < length (take input_max input) → bytes ≡ piece_at input at
-    → (so_far : WriteSoFar uid gid dir name input b c file at) → writing uid gid dir name input so_far.outcomes ≡ Calls (write_call uid gid file at bytes)
-next_call uid gid dir name input b c file bytes at below same so_far =
+next_call : {V : Type 0} (rel : CallRelations V) (uid gid : ℕ) (dir name input : List ℕ) (b c : V) (file bytes : List ℕ) (at : ℕ) → at < length (take input_max input) → bytes ≡ piece_at input at
+    → (so_far : WriteSoFar rel uid gid dir name input b c file at) → writing uid gid dir name input so_far.outcomes ≡ Calls (write_call uid gid file at bytes)
+next_call {V} rel uid gid dir name input b c file bytes at below same so_far =
     ap (next_write uid gid dir name input) so_far.state ∙ write_is uid gid dir name input file at below ∙ ap (λ (l : List ℕ). Calls (write_call uid gid file at l)) (sym same)
 
 -- what the outcome of a WRITE says
-counted : (uid gid : ℕ) (dir name input : List ℕ) (b c : LinkView) (file bytes : List ℕ) (at : ℕ) (outcome : Outcome) (read : Result ℕ ClientEnd) → bytes ≡ piece_at input at
-    → (so_far : WriteSoFar uid gid dir name input b c file at) → write_result (length bytes) outcome ≡ read
+counted : {V : Type 0} (rel : CallRelations V) (uid gid : ℕ) (dir name input : List ℕ) (b c : V) (file bytes : List ℕ) (at : ℕ) (outcome : Outcome) (read : Result ℕ ClientEnd) → bytes ≡ piece_at input at
+    → (so_far : WriteSoFar rel uid gid dir name input b c file at) → write_result (length bytes) outcome ≡ read
     → file_write input (so_far.outcomes ++ outcome ∷ []) ≡ with_count file at read
-counted uid gid dir name input b c file bytes at outcome read same so_far reads =
+counted {V} rel uid gid dir name input b c file bytes at outcome read same so_far reads =
     let here : write_result (length (piece_at input at)) outcome ≡ read = ap (λ (l : List ℕ). write_result (length l) outcome) (sym same) ∙ reads in
     written_after input so_far.outcomes outcome (Created file at) so_far.state ∙ ap (with_count file at) here
 
-write_started : (uid gid : ℕ) (dir name input : List ℕ) (b c : LinkView) (file : List ℕ)
-    → Asks created_file (create_call uid gid dir name) b c (Ok file) → WriteSoFar uid gid dir name input b c file 0
-write_started uid gid dir name input b c file (inl (outcome, (answered, reads))) =
+write_started : {V : Type 0} (rel : CallRelations V) (uid gid : ℕ) (dir name input : List ℕ) (b c : V) (file : List ℕ)
+    → AsksOver rel created_file (create_call uid gid dir name) b c (Ok file) → WriteSoFar rel uid gid dir name input b c file 0
+write_started {V} rel uid gid dir name input b c file (inl (outcome, (answered, reads))) =
     record {
       outcomes = outcome ∷ [];
       made = (create_call uid gid dir name, c, (refl, (answered, refl)));
       state = ap with_handle reads;
     }
-write_started uid gid dir name input b c file (inr (inl (end, (is, rest)))) = absurd (cc)
-write_started uid gid dir name input b c file (inr (inr (is, rest))) = absurd (cc)
+write_started {V} rel uid gid dir name input b c file (inr (inl (end, (is, rest)))) = absurd (cc)
+write_started {V} rel uid gid dir name input b c file (inr (inr (is, rest))) = absurd (cc)
 
-create_failed : (uid gid : ℕ) (dir name input : List ℕ) (b c : LinkView) (end : ClientEnd)
-    → Asks {A = List ℕ} created_file (create_call uid gid dir name) b c (Err end) → Follows (writing uid gid dir name input) b c (Err end)
-create_failed uid gid dir name input b c end asked =
-    follows_asked (writing uid gid dir name input) created_file b c (create_call uid gid dir name) end refl
+create_failed : {V : Type 0} (rel : CallRelations V) (uid gid : ℕ) (dir name input : List ℕ) (b c : V) (end : ClientEnd)
+    → AsksOver {A = List ℕ} rel created_file (create_call uid gid dir name) b c (Err end) → FollowsOver rel (writing uid gid dir name input) b c (Err end)
+create_failed {V} rel uid gid dir name input b c end asked =
+    follows_asked rel (writing uid gid dir name input) created_file b c (create_call uid gid dir name) end refl
     (λ outcome reads. ap (λ (r : Result (List ℕ) ClientEnd). next_write uid gid dir name input (with_handle r)) reads) asked
 
-write_stepped : (uid gid : ℕ) (dir name input : List ℕ) (b c d : LinkView) (file bytes : List ℕ) (at at' : ℕ)
-    → at < length (take input_max input) → bytes ≡ piece_at input at → WriteSoFar uid gid dir name input b c file at
-    → WritesOn uid gid file bytes at at' c d → WriteSoFar uid gid dir name input b d file at'
-write_stepped uid gid dir name input b c d file bytes at at' below same so_far on =
+write_stepped : {V : Type 0} (rel : CallRelations V) (uid gid : ℕ) (dir name input : List ℕ) (b c d : V) (file bytes : List ℕ) (at at' : ℕ)
+    → at < length (take input_max input) → bytes ≡ piece_at input at → WriteSoFar rel uid gid dir name input b c file at
+    → WritesOn rel uid gid file bytes at at' c d → WriteSoFar rel uid gid dir name input b d file at'
+write_stepped {V} rel uid gid dir name input b c d file bytes at at' below same so_far on =
     record {
       outcomes = so_far.outcomes ++ on.outcome ∷ [];
-      made = calls_more (writing uid gid dir name input) so_far.outcomes b c d (write_call uid gid file at bytes) on.outcome so_far.made
-          (next_call uid gid dir name input b c file bytes at below same so_far) on.answered;
-      state = counted uid gid dir name input b c file bytes at on.outcome (Ok on.count) same so_far on.reads ∙ ap (Created file) (sym on.offset);
+      made = calls_more rel (writing uid gid dir name input) so_far.outcomes b c d (write_call uid gid file at bytes) on.outcome so_far.made
+          (next_call rel uid gid dir name input b c file bytes at below same so_far) on.answered;
+      state = counted rel uid gid dir name input b c file bytes at on.outcome (Ok on.count) same so_far on.reads ∙ ap (Created file) (sym on.offset);
     }
 
 -- ---- What a window has
@@ -158,24 +158,24 @@ rest_may_follow false left ends = tt
 -- ---- What was written so far
 
 -- the file was created
-pub streams_begin : (uid gid : ℕ) (dir name : List ℕ) (b c : LinkView) (left given left' given' : Option (List ℕ)) (file : List ℕ) (w : WindowState)
-    → HandsOut left given left' given' w.kept → IsReadyAt 0 left' w → Asks created_file (create_call uid gid dir name) b c (Ok file) → StreamsSoFar uid gid dir name b c left given left' given' file 0 w
-streams_begin uid gid dir name b c left given left' given' file w hands ready asked =
+pub streams_begin : {V : Type 0} (rel : CallRelations V) (uid gid : ℕ) (dir name : List ℕ) (b c : V) (left given left' given' : Option (List ℕ)) (file : List ℕ) (w : WindowState)
+    → HandsOut left given left' given' w.kept → IsReadyAt 0 left' w → AsksOver rel created_file (create_call uid gid dir name) b c (Ok file) → StreamsSoFar rel uid gid dir name b c left given left' given' file 0 w
+streams_begin {V} rel uid gid dir name b c left given left' given' file w hands ready asked =
     record {
       written = [];
       hands_out = hands;
       offset = refl;
       begins = λ rest may. let same : piece_at (w.kept ++ rest) 0 ≡ w.kept = piece_is [] w.kept rest 0 w.ended refl (omega arith) ready.full ready.within may in
           let len : length (piece_at (w.kept ++ rest) 0) ≡ length w.kept = ap (λ (l : List ℕ). length l) same in omega (arith, len);
-      calls = λ rest may. write_started uid gid dir name (w.kept ++ rest) b c file asked;
+      calls = λ rest may. write_started rel uid gid dir name (w.kept ++ rest) b c file asked;
     }
 
 -- a WRITE was answered
-streams_written : (uid gid : ℕ) (dir name : List ℕ) (b c d : LinkView) (left given left' given' : Option (List ℕ)) (file : List ℕ) (at count : ℕ) (w : WindowState)
-    → IsReadyAt at left' w → at < input_max → 0 < length w.kept → count ≤ length w.kept → WritesOn uid gid file w.kept at (at + count) c d
-    → StreamsSoFar uid gid dir name b c left given left' given' file at w
-    → StreamsSoFar uid gid dir name b d left given left' given' file (at + count) (record { kept = drop count w.kept; ended = w.ended })
-streams_written uid gid dir name b c d left given left' given' file at count w ready below some within on s =
+streams_written : {V : Type 0} (rel : CallRelations V) (uid gid : ℕ) (dir name : List ℕ) (b c d : V) (left given left' given' : Option (List ℕ)) (file : List ℕ) (at count : ℕ) (w : WindowState)
+    → IsReadyAt at left' w → at < input_max → 0 < length w.kept → count ≤ length w.kept → WritesOn rel uid gid file w.kept at (at + count) c d
+    → StreamsSoFar rel uid gid dir name b c left given left' given' file at w
+    → StreamsSoFar rel uid gid dir name b d left given left' given' file (at + count) (record { kept = drop count w.kept; ended = w.ended })
+streams_written {V} rel uid gid dir name b c d left given left' given' file at count w ready below some within on s =
     let same : (s.written ++ take count w.kept) ++ drop count w.kept ≡ s.written ++ w.kept =
     append_assoc s.written (take count w.kept) (drop count w.kept) ∙ ap (λ (l : List ℕ). s.written ++ l) (take-append-drop count w.kept) in
     record {
@@ -183,15 +183,15 @@ streams_written uid gid dir name b c d left given left' given' file at count w r
       hands_out = subst (λ (l : List ℕ). HandsOut left given left' given' l) (sym same) s.hands_out;
       offset = omega (arith, s.offset, length-append s.written (take count w.kept), length-take-le count w.kept within);
       begins = λ rest may. subst (λ (l : List ℕ). length (piece_at (l ++ rest) 0) ≤ length l) (sym same) (s.begins rest may);
-      calls = λ rest may. subst (λ (l : List ℕ). WriteSoFar uid gid dir name (l ++ rest) b d file (at + count)) (sym same)
-          (write_stepped uid gid dir name ((s.written ++ w.kept) ++ rest) b c d file w.kept at (at + count)
+      calls = λ rest may. subst (λ (l : List ℕ). WriteSoFar rel uid gid dir name (l ++ rest) b d file (at + count)) (sym same)
+          (write_stepped rel uid gid dir name ((s.written ++ w.kept) ++ rest) b c d file w.kept at (at + count)
           (more_is_left s.written w.kept rest at s.offset below some) (sym (piece_is s.written w.kept rest at w.ended s.offset below ready.full ready.within may)) (s.calls rest may) on);
     }
 
 -- more was read
-streams_filled : (uid gid : ℕ) (dir name : List ℕ) (b c : LinkView) (left given left' given' left'' given'' : Option (List ℕ)) (file : List ℕ) (at wanted : ℕ) (w v : WindowState)
-    → TakesMore wanted left' given' left'' given'' w v → StreamsSoFar uid gid dir name b c left given left' given' file at w → StreamsSoFar uid gid dir name b c left given left'' given'' file at v
-streams_filled uid gid dir name b c left given left' given' left'' given'' file at wanted w v takes s =
+streams_filled : {V : Type 0} (rel : CallRelations V) (uid gid : ℕ) (dir name : List ℕ) (b c : V) (left given left' given' left'' given'' : Option (List ℕ)) (file : List ℕ) (at wanted : ℕ) (w v : WindowState)
+    → TakesMore wanted left' given' left'' given'' w v → StreamsSoFar rel uid gid dir name b c left given left' given' file at w → StreamsSoFar rel uid gid dir name b c left given left'' given'' file at v
+streams_filled {V} rel uid gid dir name b c left given left' given' left'' given'' file at wanted w v takes s =
     let same : (s.written ++ w.kept) ++ takes.more ≡ s.written ++ v.kept = append_assoc s.written w.kept takes.more ∙ ap (λ (l : List ℕ). s.written ++ l) (sym takes.kept) in
     let all : (rest : List ℕ) → (s.written ++ w.kept) ++ (takes.more ++ rest) ≡ (s.written ++ v.kept) ++ rest =
     λ rest. sym (append_assoc (s.written ++ w.kept) takes.more rest) ∙ ap (λ (l : List ℕ). l ++ rest) same in
@@ -202,16 +202,16 @@ streams_filled uid gid dir name b c left given left' given' left'' given'' file 
       offset = s.offset;
       begins = λ rest may. subst (λ (l : List ℕ). length (piece_at l 0) ≤ length (s.written ++ v.kept)) (all rest)
           (let first = s.begins (takes.more ++ rest) (takes.follows rest may) in omega (arith, first, len, length-append (s.written ++ w.kept) takes.more));
-      calls = λ rest may. subst (λ (l : List ℕ). WriteSoFar uid gid dir name l b c file at) (all rest) (s.calls (takes.more ++ rest) (takes.follows rest may));
+      calls = λ rest may. subst (λ (l : List ℕ). WriteSoFar rel uid gid dir name l b c file at) (all rest) (s.calls (takes.more ++ rest) (takes.follows rest may));
     }
 
-streams_on : (uid gid : ℕ) (file : List ℕ) (at count : ℕ) (w v : WindowState) (c d : LinkView) (left given left' given' : Option (List ℕ))
-    → IsReadyAt at left w → at < input_max → 0 < length w.kept → count ≤ length w.kept → WritesOn uid gid file w.kept at (at + count) c d
+streams_on : {V : Type 0} (rel : CallRelations V) (uid gid : ℕ) (file : List ℕ) (at count : ℕ) (w v : WindowState) (c d : V) (left given left' given' : Option (List ℕ))
+    → IsReadyAt at left w → at < input_max → 0 < length w.kept → count ≤ length w.kept → WritesOn rel uid gid file w.kept at (at + count) c d
     → TakesMore (wanted_at (at + count)) left given left' given' (record { kept = drop count w.kept; ended = w.ended }) v
-    → StreamsOn uid gid file at (at + count) w v c d left given left' given'
-streams_on uid gid file at count w v c d left given left' given' ready below some within on takes dir name b first first_given s =
-    streams_filled uid gid dir name b d first first_given left given left' given' file (at + count) (wanted_at (at + count)) (record { kept = drop count w.kept; ended = w.ended }) v takes
-    (streams_written uid gid dir name b c d first first_given left given file at count w ready below some within on s)
+    → StreamsOn rel uid gid file at (at + count) w v c d left given left' given'
+streams_on {V} rel uid gid file at count w v c d left given left' given' ready below some within on takes dir name b first first_given s =
+    streams_filled rel uid gid dir name b d first first_given left given left' given' file (at + count) (wanted_at (at + count)) (record { kept = drop count w.kept; ended = w.ended }) v takes
+    (streams_written rel uid gid dir name b c d first first_given left given file at count w ready below some within on s)
 
 -- ---- The ends
 
@@ -226,35 +226,35 @@ first_outcomes : (outcomes more : List Outcome) → take (length outcomes) (outc
 first_outcomes outcomes more = take_at outcomes more (length outcomes) refl
 
 -- the calls so far, some more, and the end
-ends_after : (uid gid : ℕ) (dir name handed rest : List ℕ) (b c d : LinkView) (first more all : List Outcome) (result : Result (Unit {0}) ClientEnd)
-    → first ++ more ≡ all → MakesCalls (writing uid gid dir name (handed ++ rest)) all b c → EndsWith (writing uid gid dir name (handed ++ rest) all) c d result
-    → IsReadAhead (file_write (handed ++ rest) first) handed → EndsWriting uid gid dir name handed rest b d result
-ends_after uid gid dir name handed rest b c d first more all result same made ends ahead =
+ends_after : {V : Type 0} (rel : CallRelations V) (uid gid : ℕ) (dir name handed rest : List ℕ) (b c d : V) (first more all : List Outcome) (result : Result (Unit {0}) ClientEnd)
+    → first ++ more ≡ all → MakesCallsOver rel (writing uid gid dir name (handed ++ rest)) all b c → EndsWithOver rel (writing uid gid dir name (handed ++ rest) all) c d result
+    → IsReadAhead (file_write (handed ++ rest) first) handed → EndsWritingOver rel uid gid dir name handed rest b d result
+ends_after {V} rel uid gid dir name handed rest b c d first more all result same made ends ahead =
     FollowsInput (record { outcomes = all; between = c; made = made; ends = ends }) (length first)
     (subst (λ (l : List Outcome). IsReadAhead (file_write (handed ++ rest) l) handed) (sym (ap (take (length first)) (sym same) ∙ first_outcomes first more)) ahead)
 
 -- a WRITE has no answer, or its answer no count
-write_failed : (uid gid : ℕ) (dir name handed rest : List ℕ) (b c d : LinkView) (file bytes : List ℕ) (at : ℕ) (end : ClientEnd)
-    → at < length (take input_max (handed ++ rest)) → bytes ≡ piece_at (handed ++ rest) at → (s : WriteSoFar uid gid dir name (handed ++ rest) b c file at)
-    → IsReadAhead (file_write (handed ++ rest) s.outcomes) handed → FailsToWrite uid gid file bytes at c d end → EndsWriting uid gid dir name handed rest b d (Err end)
-write_failed uid gid dir name handed rest b c d file bytes at end below same s ahead (inl unanswered) =
-    ends_after uid gid dir name handed rest b c d s.outcomes [] s.outcomes (Err end) (append-nil s.outcomes) s.made
-    (ends_unanswered (writing uid gid dir name (handed ++ rest)) s.outcomes c d (write_call uid gid file at bytes) end
-    (next_call uid gid dir name (handed ++ rest) b c file bytes at below same s) unanswered) ahead
-write_failed uid gid dir name handed rest b c d file bytes at end below same s ahead (inr (outcome, (answered, gives))) =
+write_failed : {V : Type 0} (rel : CallRelations V) (uid gid : ℕ) (dir name handed rest : List ℕ) (b c d : V) (file bytes : List ℕ) (at : ℕ) (end : ClientEnd)
+    → at < length (take input_max (handed ++ rest)) → bytes ≡ piece_at (handed ++ rest) at → (s : WriteSoFar rel uid gid dir name (handed ++ rest) b c file at)
+    → IsReadAhead (file_write (handed ++ rest) s.outcomes) handed → FailsToWrite rel uid gid file bytes at c d end → EndsWritingOver rel uid gid dir name handed rest b d (Err end)
+write_failed {V} rel uid gid dir name handed rest b c d file bytes at end below same s ahead (inl unanswered) =
+    ends_after rel uid gid dir name handed rest b c d s.outcomes [] s.outcomes (Err end) (append-nil s.outcomes) s.made
+    (ends_unanswered rel (writing uid gid dir name (handed ++ rest)) s.outcomes c d (write_call uid gid file at bytes) end
+    (next_call rel uid gid dir name (handed ++ rest) b c file bytes at below same s) unanswered) ahead
+write_failed {V} rel uid gid dir name handed rest b c d file bytes at end below same s ahead (inr (outcome, (answered, gives))) =
     let input : List ℕ = handed ++ rest in
-    ends_after uid gid dir name handed rest b d d s.outcomes (outcome ∷ []) (s.outcomes ++ outcome ∷ []) (Err end) refl
-    (calls_more (writing uid gid dir name input) s.outcomes b c d (write_call uid gid file at bytes) outcome s.made (next_call uid gid dir name input b c file bytes at below same s) answered)
-    (ends_answered (writing uid gid dir name input) (s.outcomes ++ outcome ∷ []) d end (write_result (length bytes) outcome) gives
-    (λ reads. ap (next_write uid gid dir name input) (counted uid gid dir name input b c file bytes at outcome (Err end) same s reads))) ahead
+    ends_after rel uid gid dir name handed rest b d d s.outcomes (outcome ∷ []) (s.outcomes ++ outcome ∷ []) (Err end) refl
+    (calls_more rel (writing uid gid dir name input) s.outcomes b c d (write_call uid gid file at bytes) outcome s.made (next_call rel uid gid dir name input b c file bytes at below same s) answered)
+    (ends_answered rel (writing uid gid dir name input) (s.outcomes ++ outcome ∷ []) d end (write_result (length bytes) outcome) gives
+    (λ reads. ap (next_write uid gid dir name input) (counted rel uid gid dir name input b c file bytes at outcome (Err end) same s reads))) ahead
 
 -- all was written
-write_completed : (uid gid : ℕ) (dir name handed rest : List ℕ) (b c : LinkView) (file : List ℕ) (at : ℕ) (result : Result (Unit {0}) ClientEnd)
-    → length (take input_max (handed ++ rest)) ≤ at → (s : WriteSoFar uid gid dir name (handed ++ rest) b c file at) → IsReadAhead (file_write (handed ++ rest) s.outcomes) handed
-    → write_end (handed ++ rest) ≡ result → Gives result result → EndsWriting uid gid dir name handed rest b c result
-write_completed uid gid dir name handed rest b c file at result above s ahead is gives =
-    ends_after uid gid dir name handed rest b c c s.outcomes [] s.outcomes result (append-nil s.outcomes) s.made
-    (ends_done (writing uid gid dir name (handed ++ rest)) s.outcomes c result
+write_completed : {V : Type 0} (rel : CallRelations V) (uid gid : ℕ) (dir name handed rest : List ℕ) (b c : V) (file : List ℕ) (at : ℕ) (result : Result (Unit {0}) ClientEnd)
+    → length (take input_max (handed ++ rest)) ≤ at → (s : WriteSoFar rel uid gid dir name (handed ++ rest) b c file at) → IsReadAhead (file_write (handed ++ rest) s.outcomes) handed
+    → write_end (handed ++ rest) ≡ result → Gives result result → EndsWritingOver rel uid gid dir name handed rest b c result
+write_completed {V} rel uid gid dir name handed rest b c file at result above s ahead is gives =
+    ends_after rel uid gid dir name handed rest b c c s.outcomes [] s.outcomes result (append-nil s.outcomes) s.made
+    (ends_done rel (writing uid gid dir name (handed ++ rest)) s.outcomes c result
     (ap (next_write uid gid dir name (handed ++ rest)) s.state ∙ end_is uid gid dir name (handed ++ rest) file at above ∙ ap (λ (r : Result (Unit {0}) ClientEnd). Returns r) is) gives) ahead
 
 -- an end that a call has is none of the input
@@ -274,10 +274,10 @@ read_of_call (client.Budget count) handed rest of = absurd of
 read_of_call client.Memory handed rest of = tt
 
 -- so far, with what is left of the input
-streams_end : (uid gid : ℕ) (dir name : List ℕ) (b c d : LinkView) (left given left' given' : Option (List ℕ)) (file : List ℕ) (at : ℕ) (w : WindowState) (result : Result (Unit {0}) ClientEnd)
-    → EndsAt w.ended left' → (s : StreamsSoFar uid gid dir name b c left given left' given' file at w) → IsRead result (s.written ++ w.kept) (known_rest left')
-    → EndsWriting uid gid dir name (s.written ++ w.kept) (known_rest left') b d result → WritesFile uid gid dir name b d left given left' given' result
-streams_end uid gid dir name b c d left given left' given' file at w result ends s read writes =
+streams_end : {V : Type 0} (rel : CallRelations V) (uid gid : ℕ) (dir name : List ℕ) (b c d : V) (left given left' given' : Option (List ℕ)) (file : List ℕ) (at : ℕ) (w : WindowState) (result : Result (Unit {0}) ClientEnd)
+    → EndsAt w.ended left' → (s : StreamsSoFar rel uid gid dir name b c left given left' given' file at w) → IsRead result (s.written ++ w.kept) (known_rest left')
+    → EndsWritingOver rel uid gid dir name (s.written ++ w.kept) (known_rest left') b d result → WritesFileOver rel uid gid dir name b d left given left' given' result
+streams_end {V} rel uid gid dir name b c d left given left' given' file at w result ends s read writes =
     record {
       handed = s.written ++ w.kept;
       rest = known_rest left';
@@ -288,13 +288,13 @@ streams_end uid gid dir name b c d left given left' given' file at w result ends
       calls = writes;
     }
 
-streams_failed : (uid gid : ℕ) (file : List ℕ) (at : ℕ) (w : WindowState) (c d : LinkView) (left given : Option (List ℕ)) (end : ClientEnd)
-    → IsReadyAt at left w → at < input_max → 0 < length w.kept → IsOfCall end → FailsToWrite uid gid file w.kept at c d end → StreamsTo uid gid file at w c d left given left given (Err end)
-streams_failed uid gid file at w c d left given end ready below some of fails dir name b first first_given s =
+streams_failed : {V : Type 0} (rel : CallRelations V) (uid gid : ℕ) (file : List ℕ) (at : ℕ) (w : WindowState) (c d : V) (left given : Option (List ℕ)) (end : ClientEnd)
+    → IsReadyAt at left w → at < input_max → 0 < length w.kept → IsOfCall end → FailsToWrite rel uid gid file w.kept at c d end → StreamsTo rel uid gid file at w c d left given left given (Err end)
+streams_failed {V} rel uid gid file at w c d left given end ready below some of fails dir name b first first_given s =
     let rest : List ℕ = known_rest left in
     let may : MayFollow w.ended rest = rest_may_follow w.ended left ready.ends in
-    streams_end uid gid dir name b c d first first_given left given file at w (Err end) ready.ends s (read_of_call end (s.written ++ w.kept) rest of)
-    (write_failed uid gid dir name (s.written ++ w.kept) rest b c d file w.kept at end
+    streams_end rel uid gid dir name b c d first first_given left given file at w (Err end) ready.ends s (read_of_call end (s.written ++ w.kept) rest of)
+    (write_failed rel uid gid dir name (s.written ++ w.kept) rest b c d file w.kept at end
     (more_is_left s.written w.kept rest at s.offset below some) (sym (piece_is s.written w.kept rest at w.ended s.offset below ready.full ready.within may)) (s.calls rest may)
     (read_ahead ((s.written ++ w.kept) ++ rest) (s.calls rest may).outcomes file at s.written w.kept (s.calls rest may).state s.offset (omega (arith, ready.within, wanted_within at))) fails)
 
@@ -304,42 +304,42 @@ read_of_input end handed rest (inl is) = subst (λ (e : ClientEnd). IsRead (Err 
 read_of_input end handed rest (inr is) = subst (λ (e : ClientEnd). IsRead (Err e) handed rest) (sym is) tt
 
 -- the calls so far, and no more was read
-write_stopped : (uid gid : ℕ) (dir name handed rest : List ℕ) (b c : LinkView) (file : List ℕ) (at : ℕ) (end : ClientEnd)
-    → (s : WriteSoFar uid gid dir name (handed ++ rest) b c file at) → IsReadAhead (file_write (handed ++ rest) s.outcomes) handed → IsOfInput end
-    → EndsWriting uid gid dir name handed rest b c (Err end)
-write_stopped uid gid dir name handed rest b c file at end s ahead (inl is) = InputFails s.outcomes (ap (λ (e : ClientEnd). Err e) is) s.made ahead
-write_stopped uid gid dir name handed rest b c file at end s ahead (inr is) =
-    subst (λ (e : ClientEnd). EndsWriting uid gid dir name handed rest b c (Err e)) (sym is)
-    (ends_after uid gid dir name handed rest b c c s.outcomes [] s.outcomes (Err client.Memory) (append-nil s.outcomes) s.made
-    (memory_ends (writing uid gid dir name (handed ++ rest) s.outcomes) c) ahead)
+write_stopped : {V : Type 0} (rel : CallRelations V) (uid gid : ℕ) (dir name handed rest : List ℕ) (b c : V) (file : List ℕ) (at : ℕ) (end : ClientEnd)
+    → (s : WriteSoFar rel uid gid dir name (handed ++ rest) b c file at) → IsReadAhead (file_write (handed ++ rest) s.outcomes) handed → IsOfInput end
+    → EndsWritingOver rel uid gid dir name handed rest b c (Err end)
+write_stopped {V} rel uid gid dir name handed rest b c file at end s ahead (inl is) = InputFails s.outcomes (ap (λ (e : ClientEnd). Err e) is) s.made ahead
+write_stopped {V} rel uid gid dir name handed rest b c file at end s ahead (inr is) =
+    subst (λ (e : ClientEnd). EndsWritingOver rel uid gid dir name handed rest b c (Err e)) (sym is)
+    (ends_after rel uid gid dir name handed rest b c c s.outcomes [] s.outcomes (Err client.Memory) (append-nil s.outcomes) s.made
+    (memory_ends rel (writing uid gid dir name (handed ++ rest) s.outcomes) c) ahead)
 
 -- no more was read after a WRITE
-streams_stopped : (uid gid : ℕ) (file : List ℕ) (at count : ℕ) (w v : WindowState) (c d : LinkView) (left given left' given' : Option (List ℕ)) (end : ClientEnd)
-    → IsReadyAt at left w → at < input_max → 0 < length w.kept → count ≤ length w.kept → WritesOn uid gid file w.kept at (at + count) c d
+streams_stopped : {V : Type 0} (rel : CallRelations V) (uid gid : ℕ) (file : List ℕ) (at count : ℕ) (w v : WindowState) (c d : V) (left given left' given' : Option (List ℕ)) (end : ClientEnd)
+    → IsReadyAt at left w → at < input_max → 0 < length w.kept → count ≤ length w.kept → WritesOn rel uid gid file w.kept at (at + count) c d
     → TakesMore (wanted_at (at + count)) left given left' given' (record { kept = drop count w.kept; ended = w.ended }) v → IsOfInput end
-    → StreamsTo uid gid file at w c d left given left' given' (Err end)
-streams_stopped uid gid file at count w v c d left given left' given' end ready below some within on takes of dir name b first first_given before =
-    let s = streams_on uid gid file at count w v c d left given left' given' ready below some within on takes dir name b first first_given before in
+    → StreamsTo rel uid gid file at w c d left given left' given' (Err end)
+streams_stopped {V} rel uid gid file at count w v c d left given left' given' end ready below some within on takes of dir name b first first_given before =
+    let s = streams_on rel uid gid file at count w v c d left given left' given' ready below some within on takes dir name b first first_given before in
     let ends : EndsAt v.ended left' = takes.ends ready.ends in
     let rest : List ℕ = known_rest left' in
     let may : MayFollow v.ended rest = rest_may_follow v.ended left' ends in
-    streams_end uid gid dir name b d d first first_given left' given' file (at + count) v (Err end) ends s (read_of_input end (s.written ++ v.kept) rest of)
-    (write_stopped uid gid dir name (s.written ++ v.kept) rest b d file (at + count) end (s.calls rest may)
+    streams_end rel uid gid dir name b d d first first_given left' given' file (at + count) v (Err end) ends s (read_of_input end (s.written ++ v.kept) rest of)
+    (write_stopped rel uid gid dir name (s.written ++ v.kept) rest b d file (at + count) end (s.calls rest may)
     (read_ahead ((s.written ++ v.kept) ++ rest) (s.calls rest may).outcomes file (at + count) s.written v.kept (s.calls rest may).state s.offset (omega (arith, takes.within, wanted_within (at + count)))) of)
 
 -- nothing is left in the window
-pub streams_done : (uid gid : ℕ) (file : List ℕ) (at : ℕ) (w : WindowState) (c : LinkView) (left given : Option (List ℕ))
-    → IsReadyAt at left w → length w.kept ≤ 0 → (dir name : List ℕ) (b : LinkView) (first first_given : Option (List ℕ))
-    → StreamsSoFar uid gid dir name b c first first_given left given file at w → WritesFile uid gid dir name b c first first_given left given (Ok tt)
-streams_done uid gid file at w c left given ready none dir name b first first_given s =
+pub streams_done : {V : Type 0} (rel : CallRelations V) (uid gid : ℕ) (file : List ℕ) (at : ℕ) (w : WindowState) (c : V) (left given : Option (List ℕ))
+    → IsReadyAt at left w → length w.kept ≤ 0 → (dir name : List ℕ) (b : V) (first first_given : Option (List ℕ))
+    → StreamsSoFar rel uid gid dir name b c first first_given left given file at w → WritesFileOver rel uid gid dir name b c first first_given left given (Ok tt)
+streams_done {V} rel uid gid file at w c left given ready none dir name b first first_given s =
     let rest : List ℕ = known_rest left in
     let may : MayFollow w.ended rest = rest_may_follow w.ended left ready.ends in
     let ended : w.ended ≡ true = at_end ready.full in
     let no_rest : rest ≡ [] = none_follows w.ended rest ended may in
     let len : length ((s.written ++ w.kept) ++ rest) ≡ at =
     ap (λ (l : List ℕ). length ((s.written ++ w.kept) ++ l)) no_rest ∙ (omega (arith, none, s.offset, length-append (s.written ++ w.kept) [], length-append s.written w.kept)) in
-    streams_end uid gid dir name b c c first first_given left given file at w (Ok tt) ready.ends s no_rest
-    (write_completed uid gid dir name (s.written ++ w.kept) rest b c file at (Ok tt)
+    streams_end rel uid gid dir name b c c first first_given left given file at w (Ok tt) ready.ends s no_rest
+    (write_completed rel uid gid dir name (s.written ++ w.kept) rest b c file at (Ok tt)
     (omega (arith, len, length-take input_max ((s.written ++ w.kept) ++ rest))) (s.calls rest may)
     (read_ahead ((s.written ++ w.kept) ++ rest) (s.calls rest may).outcomes file at s.written w.kept (s.calls rest may).state s.offset (omega (arith, ready.within, wanted_within at)))
     (fits ((s.written ++ w.kept) ++ rest) (omega (arith, len, ready.offset))) refl)
@@ -352,15 +352,15 @@ streams_done uid gid file at w c left given ready none dir name b first first_gi
     fits input within = rw (le-ltb input_max (length input) within) refl
 
 -- one byte is left that is beyond the maximum
-pub streams_beyond : (uid gid : ℕ) (file : List ℕ) (at : ℕ) (w : WindowState) (c : LinkView) (left given : Option (List ℕ))
-    → IsReadyAt at left w → input_max ≤ at → 0 < length w.kept → (dir name : List ℕ) (b : LinkView) (first first_given : Option (List ℕ))
-    → StreamsSoFar uid gid dir name b c first first_given left given file at w → WritesFile uid gid dir name b c first first_given left given (Err (client.Budget input_max))
-streams_beyond uid gid file at w c left given ready above some dir name b first first_given s =
+pub streams_beyond : {V : Type 0} (rel : CallRelations V) (uid gid : ℕ) (file : List ℕ) (at : ℕ) (w : WindowState) (c : V) (left given : Option (List ℕ))
+    → IsReadyAt at left w → input_max ≤ at → 0 < length w.kept → (dir name : List ℕ) (b : V) (first first_given : Option (List ℕ))
+    → StreamsSoFar rel uid gid dir name b c first first_given left given file at w → WritesFileOver rel uid gid dir name b c first first_given left given (Err (client.Budget input_max))
+streams_beyond {V} rel uid gid file at w c left given ready above some dir name b first first_given s =
     let rest : List ℕ = known_rest left in
     let may : MayFollow w.ended rest = rest_may_follow w.ended left ready.ends in
     let handed : input_max < length (s.written ++ w.kept) = omega (arith, above, some, s.offset, length-append s.written w.kept) in
-    streams_end uid gid dir name b c c first first_given left given file at w (Err (client.Budget input_max)) ready.ends s handed
-    (write_completed uid gid dir name (s.written ++ w.kept) rest b c file at (Err (client.Budget input_max))
+    streams_end rel uid gid dir name b c c first first_given left given file at w (Err (client.Budget input_max)) ready.ends s handed
+    (write_completed rel uid gid dir name (s.written ++ w.kept) rest b c file at (Err (client.Budget input_max))
     (omega (arith, above, length-take input_max ((s.written ++ w.kept) ++ rest))) (s.calls rest may)
     (read_ahead ((s.written ++ w.kept) ++ rest) (s.calls rest may).outcomes file at s.written w.kept (s.calls rest may).state s.offset (omega (arith, ready.within, wanted_within at)))
     (beyond ((s.written ++ w.kept) ++ rest) (omega (arith, handed, length-append (s.written ++ w.kept) rest))) refl)
@@ -379,34 +379,34 @@ takes_by : (at count wanted : ℕ) (w m v : WindowState) (left given left' given
 takes_by at count wanted w m v left given left' given' moved is takes =
     subst (λ (n : ℕ). TakesMore n left given left' given' (record { kept = drop count w.kept; ended = w.ended }) v) is (subst (λ (x : WindowState). TakesMore wanted left given left' given' x v) moved takes)
 
-pub on_by : (uid gid : ℕ) (file piece : List ℕ) (at count wanted : ℕ) (w m v : WindowState) (c d : LinkView) (left given left' given' : Option (List ℕ))
-    → IsReadyAt at left w → at < input_max → 0 < length w.kept → piece ≡ w.kept → count ≤ length piece → WritesOn uid gid file piece at (at + count) c d
+pub on_by : {V : Type 0} (rel : CallRelations V) (uid gid : ℕ) (file piece : List ℕ) (at count wanted : ℕ) (w m v : WindowState) (c d : V) (left given left' given' : Option (List ℕ))
+    → IsReadyAt at left w → at < input_max → 0 < length w.kept → piece ≡ w.kept → count ≤ length piece → WritesOn rel uid gid file piece at (at + count) c d
     → m ≡ record { kept = drop count w.kept; ended = w.ended } → wanted ≡ wanted_at (at + count) → TakesMore wanted left given left' given' m v
-    → StreamsOn uid gid file at (at + count) w v c d left given left' given'
-on_by uid gid file piece at count wanted w m v c d left given left' given' ready below some same within on moved is takes =
-    streams_on uid gid file at count w v c d left given left' given' ready below some (count_within piece w.kept count same within)
-    (subst (λ (l : List ℕ). WritesOn uid gid file l at (at + count) c d) same on) (takes_by at count wanted w m v left given left' given' moved is takes)
+    → StreamsOn rel uid gid file at (at + count) w v c d left given left' given'
+on_by {V} rel uid gid file piece at count wanted w m v c d left given left' given' ready below some same within on moved is takes =
+    streams_on rel uid gid file at count w v c d left given left' given' ready below some (count_within piece w.kept count same within)
+    (subst (λ (l : List ℕ). WritesOn rel uid gid file l at (at + count) c d) same on) (takes_by at count wanted w m v left given left' given' moved is takes)
 
-pub stopped_by : (uid gid : ℕ) (file piece : List ℕ) (at count wanted : ℕ) (w m v : WindowState) (c d : LinkView) (left given left' given' : Option (List ℕ)) (end : ClientEnd)
-    → IsReadyAt at left w → at < input_max → 0 < length w.kept → piece ≡ w.kept → count ≤ length piece → WritesOn uid gid file piece at (at + count) c d
+pub stopped_by : {V : Type 0} (rel : CallRelations V) (uid gid : ℕ) (file piece : List ℕ) (at count wanted : ℕ) (w m v : WindowState) (c d : V) (left given left' given' : Option (List ℕ)) (end : ClientEnd)
+    → IsReadyAt at left w → at < input_max → 0 < length w.kept → piece ≡ w.kept → count ≤ length piece → WritesOn rel uid gid file piece at (at + count) c d
     → m ≡ record { kept = drop count w.kept; ended = w.ended } → wanted ≡ wanted_at (at + count) → TakesMore wanted left given left' given' m v → IsOfInput end
-    → StreamsTo uid gid file at w c d left given left' given' (Err end)
-stopped_by uid gid file piece at count wanted w m v c d left given left' given' end ready below some same within on moved is takes of =
-    streams_stopped uid gid file at count w v c d left given left' given' end ready below some (count_within piece w.kept count same within)
-    (subst (λ (l : List ℕ). WritesOn uid gid file l at (at + count) c d) same on) (takes_by at count wanted w m v left given left' given' moved is takes) of
+    → StreamsTo rel uid gid file at w c d left given left' given' (Err end)
+stopped_by {V} rel uid gid file piece at count wanted w m v c d left given left' given' end ready below some same within on moved is takes of =
+    streams_stopped rel uid gid file at count w v c d left given left' given' end ready below some (count_within piece w.kept count same within)
+    (subst (λ (l : List ℕ). WritesOn rel uid gid file l at (at + count) c d) same on) (takes_by at count wanted w m v left given left' given' moved is takes) of
 
-pub failed_by : (uid gid : ℕ) (file piece : List ℕ) (at : ℕ) (w : WindowState) (c d : LinkView) (left given : Option (List ℕ)) (end : ClientEnd)
-    → IsReadyAt at left w → at < input_max → 0 < length w.kept → piece ≡ w.kept → IsOfCall end → FailsToWrite uid gid file piece at c d end → StreamsTo uid gid file at w c d left given left given (Err end)
-failed_by uid gid file piece at w c d left given end ready below some same of fails =
-    streams_failed uid gid file at w c d left given end ready below some of (subst (λ (l : List ℕ). FailsToWrite uid gid file l at c d end) same fails)
+pub failed_by : {V : Type 0} (rel : CallRelations V) (uid gid : ℕ) (file piece : List ℕ) (at : ℕ) (w : WindowState) (c d : V) (left given : Option (List ℕ)) (end : ClientEnd)
+    → IsReadyAt at left w → at < input_max → 0 < length w.kept → piece ≡ w.kept → IsOfCall end → FailsToWrite rel uid gid file piece at c d end → StreamsTo rel uid gid file at w c d left given left given (Err end)
+failed_by {V} rel uid gid file piece at w c d left given end ready below some same of fails =
+    streams_failed rel uid gid file at w c d left given end ready below some of (subst (λ (l : List ℕ). FailsToWrite rel uid gid file l at c d end) same fails)
 
 -- ---- Before the file is created
 
 -- CREATE has no handle
-pub create_ended : (uid gid : ℕ) (dir name : List ℕ) (b c : LinkView) (left given left' given' : Option (List ℕ)) (w : WindowState) (end : ClientEnd)
-    → HandsOut left given left' given' w.kept → IsReadyAt 0 left' w → IsOfCall end → Asks {A = List ℕ} created_file (create_call uid gid dir name) b c (Err end)
-    → WritesFile uid gid dir name b c left given left' given' (Err end)
-create_ended uid gid dir name b c left given left' given' w end hands ready of asked =
+pub create_ended : {V : Type 0} (rel : CallRelations V) (uid gid : ℕ) (dir name : List ℕ) (b c : V) (left given left' given' : Option (List ℕ)) (w : WindowState) (end : ClientEnd)
+    → HandsOut left given left' given' w.kept → IsReadyAt 0 left' w → IsOfCall end → AsksOver {A = List ℕ} rel created_file (create_call uid gid dir name) b c (Err end)
+    → WritesFileOver rel uid gid dir name b c left given left' given' (Err end)
+create_ended {V} rel uid gid dir name b c left given left' given' w end hands ready of asked =
     let rest : List ℕ = known_rest left' in
     let may : MayFollow w.ended rest = rest_may_follow w.ended left' ready.ends in
     let same : length (piece_at (w.kept ++ rest) 0) ≡ length w.kept = ap (λ (l : List ℕ). length l) (piece_is [] w.kept rest 0 w.ended refl (omega arith) ready.full ready.within may) in
@@ -417,7 +417,7 @@ create_ended uid gid dir name b c left given left' given' w end hands ready of a
       is_rest = rest_is_known left';
       is_read = read_of_call end w.kept rest of;
       begins = inr (omega (arith, same));
-      calls = FollowsInput (create_failed uid gid dir name (w.kept ++ rest) b c end asked) 0 (omega (arith, ready.within, wanted_within 0));
+      calls = FollowsInput (create_failed rel uid gid dir name (w.kept ++ rest) b c end asked) 0 (omega (arith, ready.within, wanted_within 0));
     }
 
 -- what was read at first
@@ -433,16 +433,16 @@ first_handed wanted left given left' given' w v is empty takes =
     subst (λ (l : List ℕ). HandsOut left given left' given' l) (sym first.kept) first.hands_out
 
 -- the first bytes were not all read, and no call was made
-nothing_made : (uid gid : ℕ) (dir name handed rest : List ℕ) (b : LinkView) (end : ClientEnd) → length handed ≤ transfer_max → IsOfInput end
-    → EndsWriting uid gid dir name handed rest b b (Err end)
-nothing_made uid gid dir name handed rest b end within (inl is) = InputFails [] (ap (λ (e : ClientEnd). Err e) is) refl within
-nothing_made uid gid dir name handed rest b end within (inr is) =
-    subst (λ (e : ClientEnd). EndsWriting uid gid dir name handed rest b b (Err e)) (sym is)
+nothing_made : {V : Type 0} (rel : CallRelations V) (uid gid : ℕ) (dir name handed rest : List ℕ) (b : V) (end : ClientEnd) → length handed ≤ transfer_max → IsOfInput end
+    → EndsWritingOver rel uid gid dir name handed rest b b (Err end)
+nothing_made {V} rel uid gid dir name handed rest b end within (inl is) = InputFails [] (ap (λ (e : ClientEnd). Err e) is) refl within
+nothing_made {V} rel uid gid dir name handed rest b end within (inr is) =
+    subst (λ (e : ClientEnd). EndsWritingOver rel uid gid dir name handed rest b b (Err e)) (sym is)
     (FollowsInput (record { outcomes = []; between = b; made = refl; ends = (client.Memory, (refl, inr (refl, refl))) }) 0 within)
 
-pub read_failed : (uid gid : ℕ) (dir name : List ℕ) (b : LinkView) (wanted : ℕ) (left given left' given' : Option (List ℕ)) (w v : WindowState) (end : ClientEnd)
-    → wanted ≡ wanted_at 0 → w ≡ record { kept = []; ended = false } → TakesMore wanted left given left' given' w v → IsOfInput end → WritesFile uid gid dir name b b left given left' given' (Err end)
-read_failed uid gid dir name b wanted left given left' given' w v end is empty takes of =
+pub read_failed : {V : Type 0} (rel : CallRelations V) (uid gid : ℕ) (dir name : List ℕ) (b : V) (wanted : ℕ) (left given left' given' : Option (List ℕ)) (w v : WindowState) (end : ClientEnd)
+    → wanted ≡ wanted_at 0 → w ≡ record { kept = []; ended = false } → TakesMore wanted left given left' given' w v → IsOfInput end → WritesFileOver rel uid gid dir name b b left given left' given' (Err end)
+read_failed {V} rel uid gid dir name b wanted left given left' given' w v end is empty takes of =
     let first = first_takes wanted left given left' given' w v is empty takes in
     let len : length v.kept ≡ length first.more = ap (λ (l : List ℕ). length l) first.kept in
     record {
@@ -452,7 +452,7 @@ read_failed uid gid dir name b wanted left given left' given' w v end is empty t
       is_rest = rest_is_known left';
       is_read = read_of_input end first.more (known_rest left') of;
       begins = inl refl;
-      calls = nothing_made uid gid dir name first.more (known_rest left') b end (omega (arith, len, first.within, wanted_within 0)) of;
+      calls = nothing_made rel uid gid dir name first.more (known_rest left') b end (omega (arith, len, first.within, wanted_within 0)) of;
     }
 
 -- ---- A read of the input that failed

@@ -15,7 +15,7 @@ use Rattle.nr_requester.specs.declared.taking.Done.{Done}
 use Rattle.nr_turnstile.specs.declared.turnstile.Pass.{Pass}
 use Rattle.nr_turnstile.specs.Passes.{mine_of, seen_by}
 use Rattle.nr_turnstile.specs.Rule.{Begins, IsIn, in_order}
-use Rattle.nr_shared.specs.declared.call_end.CallEnd.{CallEnd as SharedEnd}
+use Rattle.nr_shared.specs.declared.call_end.CallEnd.{CallEnd}
 use Rattle.nr_shared.specs.declared.entry.Entry.{Entry}
 use Rattle.nr_shared.specs.declared.entry.Entry.TheVariants as entries
 use Rattle.nr_shared.specs.declared.entry.InitialState.{InitialState}
@@ -55,6 +55,7 @@ initial_before (entries.Revoke x bytes submit ∷ xs) xid at c is = absurd cc
 initial_before (entries.WriteFailed ∷ xs) xid at c is = absurd cc
 initial_before (entries.Stopped cause previous ∷ xs) xid at c is = absurd cc
 initial_before (entries.OutOfMemory piece previous ∷ xs) xid at c is = absurd cc
+initial_before (entries.Rejoin sink previous ∷ xs) xid at c is = absurd cc
 
 pub in_later : (xs ys : List ℕ) (y : ℕ) → IsIn y ys → IsIn y (xs ++ ys)
 in_later xs ys y i = let a = at_after xs ys i.0 y i.1 in (a.0, a.1.1)
@@ -118,7 +119,7 @@ module _ {O C : Type 0} where
 
   -- ---- A call
 
-  pub call_grows : (p q : Pass (RequesterWithSink O C) Entry) (call : Call) (form : Form) (result : Result Done SharedEnd) → Calls p q call form result → Grows p q
+  pub call_grows : (p q : Pass (RequesterWithSink O C) Entry) (call : Call) (form : Form) (result : Result Done CallEnd) → Calls p q call form result → Grows p q
   call_grows p q call form (Ok done) o = grows_adds p q ((o.writes_before ++ entries.Submit call form o.xid ∷ o.writes_after) ++ entries.Done o.xid done.outcome o.at ∷ []) o.adds
   call_grows p q call form (Err end) (inl n) = grows_adds p q n.writes_before n.adds
   call_grows p q call form (Err end) (inr n) = grows_adds p q ((n.writes_before ++ entries.Submit call form n.xid ∷ n.writes_after) ++ entries.Forget n.xid n.at ∷ []) n.adds
@@ -135,7 +136,7 @@ module _ {O C : Type 0} where
         own = (o.own, subst (IsIn l.0) (sym o.adds.mine) (in_later (mine_of p) o.adds.places l.0 l.1.0));
       }
 
-  pub lacks : (p q : Pass (RequesterWithSink O C) Entry) (call : Call) (end : SharedEnd) → KeepsLaw (seen_by q) → Calls p q call forms.Auto (Err end) → LacksAnswer (seen_by q) call end
+  pub lacks : (p q : Pass (RequesterWithSink O C) Entry) (call : Call) (end : CallEnd) → KeepsLaw (seen_by q) → Calls p q call forms.Auto (Err end) → LacksAnswer (seen_by q) call end
   lacks p q call end law (inl n) = record { before = seen_by q; initial = law.initial; is_initial = law.is_initial; begins = begins_self (seen_by q); cause = n.cause }
   lacks p q call end law (inr n) = record {
     before = n.before;

@@ -1,10 +1,11 @@
 -- A file is read by jobs: one outcome more, and how it ends.
-use Rattle.std.proofs.Common.{◌≡◌, inl, inr, arith, ℕ, ◌+◌, ◌<◌, ◌≤◌, List, [], ◌∷◌, ◌++◌, length, take, append-nil, append_assoc, Option, Some, Result, Ok, Err, refl, sym, ap, subst, ◌∙◌}
+use Rattle.std.proofs.Common.{◌≡◌, inl, inr, arith, ℕ, ◌+◌, ◌<◌, ◌≤◌, List, [], ◌∷◌, ◌++◌, length, take, append-nil, append_assoc, Bool, false, Option, None, Some, is_some, Result, Ok, Err, refl, sym, ap, subst, ◌∙◌}
 use Rattle.std.specs.List.{All, slice_index_or}
 use Rattle.std.proofs.lemmas.Bool.{le-ltb}
 use Rattle.std.proofs.KnownBytes.{Appends-nil, Appends-trans}
 use mathlib.Core.Option.{some-injective}
 use lib.ListN.{get_elem?}
+use Rattle.nr_outside.specs.Faults.{last_count}
 use Rattle.nr_outside.specs.Streams.{SinkAt, SourceAt, sink_at, source_at}
 use Rattle.nr_nfs_base.specs.declared.attributes.Attributes.{Attributes}
 use Rattle.nr_reduce.specs.declared.call.Call.{Call}
@@ -16,11 +17,14 @@ use Rattle.nr_turnstile.specs.Passes.{mine_of, seen_by}
 use Rattle.nr_turnstile.specs.Rule.{Begins}
 use Rattle.nr_shared.specs.declared.entry.Entry.{Entry}
 use Rattle.nr_shared.specs.declared.entry.Entry.TheVariants as entries
+use Rattle.nr_shared.specs.declared.entry.InitialSink.{InitialSink}
 use Rattle.nr_shared.specs.declared.entry.InitialState.{InitialState}
+use Rattle.nr_shared.specs.declared.no_dialer.NoDialer.{NoDialer}
 use Rattle.nr_shared.specs.declared.requester_with_sink.RequesterWithSink.{RequesterWithSink}
 use Rattle.nr_shared.specs.declared.shared.SharedRequester.{SharedRequester}
-use Rattle.nr_shared.specs.Histories.{initial_of}
-use Rattle.nr_shared.specs.Opening.{GivesBack}
+use Rattle.nr_shared.specs.Histories.{PastLink, bytes_fed, initial_of, present, sink_of}
+use Rattle.nr_shared.specs.Feeding.{AskedEach, AskedIf, shared_giving}
+use Rattle.nr_shared.specs.Opening.{GivesBack, GivesLink}
 use Rattle.nr_shared.proofs.Histories.{initial_more}
 use Rattle.nr_client.specs.declared.client_end.ClientEnd.{ClientEnd}
 use Rattle.nr_client.specs.declared.client_end.ClientEnd.TheVariants as client
@@ -146,7 +150,7 @@ module _ {O C : Type 0} where
 -- ---- Jobs that have run
 
 -- The jobs were lent as a slice, and each has run: a caller can take their passes back.
-pub all_done : {I O C : Type 0} (s : SharedRequester I O C) (uid gid : ℕ) (file : List ℕ) (size len : ℕ) (old new rest : List (ReadJob I O C)) → length new ≡ length old → length old ≡ len
+pub all_done : {I O C : Type 0} (s : SharedRequester I O C (NoDialer I O)) (uid gid : ℕ) (file : List ℕ) (size len : ℕ) (old new rest : List (ReadJob I O C)) → length new ≡ length old → length old ≡ len
     → ((k : ℕ) (d : ReadJob I O C) → k < length old → IsDone s uid gid file size (slice_index_or new k d)) → All (IsDone s uid gid file size) (take len (new ++ rest))
 all_done s uid gid file size len old new rest same lent run =
     subst (All (IsDone s uid gid file size)) (sym (all_lent len new rest (same ∙ lent))) (λ k d lt. run k d (subst (λ (n : ℕ). k < n) same lt))
@@ -156,7 +160,7 @@ all_done s uid gid file size len old new rest same lent run =
 -- GETATTR over the link gave the attributes
 pub gets : (uid gid : ℕ) (file : List ℕ) (l m : LinkAt) (attributes : Attributes) → Asks getattr_result (getattr_call uid gid file) (view_at l) (view_at m) (Ok attributes)
     → m.source.faults ≡ l.source.faults → m.sink.faults ≡ l.sink.faults → (outcome : Outcome) × GetsAttributes uid gid file outcome attributes l m
-gets uid gid file l m attributes (inl (outcome, (answered, reads))) source sink = (outcome, record { answers = answered; gives = reads; source_count = source; sink_count = sink })
+gets uid gid file l m attributes (inl (outcome, (answered, reads))) source sink = (outcome, record { answers = answered.0; gives = reads; source_count = source; sink_count = sink })
 gets uid gid file l m attributes (inr (inl (end, (is, rest)))) source sink = absurd (cc)
 gets uid gid file l m attributes (inr (inr (is, rest))) source sink = absurd (cc)
 
@@ -204,12 +208,43 @@ none_read uid gid file first size seen taken told = record {
   ends = inl (inl (inl refl, inl (takes_bytes (first ∷ []) (SizeKnown size 0 []) taken taken told (Appends-nil taken))));
 }
 
--- what was given back, by what is known of its source and its sink
-pub back_known : {I O : Type 0} (left given : I → Option (List ℕ)) (source_faults : I → ℕ) (taken : O → Option (List ℕ)) (sink_faults : O → ℕ) (allows : Call → Form → Type 0) (seen : List Entry) (mine : List ℕ) (first : I) (read : ℕ) (r : RequesterSide) (source : I) (sink : O)
-    → GivesBack left given source_faults taken sink_faults allows seen mine first read r source sink
-    → GivesBack {I = SourceAt} {O = SinkAt} (λ x. x.left) (λ x. x.given) (λ x. x.faults) (λ x. x.taken) (λ x. x.faults) allows seen mine (source_at (left first) (given first) (source_faults first)) read r
-    (source_at (left source) (given source) (source_faults source)) (sink_at (taken sink) (sink_faults sink))
-back_known left given source_faults taken sink_faults allows seen mine first read r source sink b = record {
+-- the source and the sink of a link that was never left, by what is known of them
+known_link : {I O : Type 0} (link : I → ℕ) (left given : I → Option (List ℕ)) (source_faults : I → ℕ) (sink_link : O → ℕ) (taken : O → Option (List ℕ)) (sink_faults : O → ℕ) (numbered told : Bool) (first : I) (read : ℕ)
+    (source : I) (sink : O) (initial : Option InitialSink) (history : List Entry)
+    → GivesLink link left given source_faults sink_link taken sink_faults numbered told (shared_giving left given source_faults first) read (Some (source, sink)) initial history
+    → GivesLink {I = SourceAt} {O = SinkAt} (λ x. sink_link sink) (λ x. x.left) (λ x. x.given) (λ x. x.faults) (λ x. sink_link sink) (λ x. x.taken) (λ x. x.faults) numbered told
+    (shared_giving {I = SourceAt} (λ x. x.left) (λ x. x.given) (λ x. x.faults) (source_at (left first) (given first) (source_faults first))) read
+    (Some (source_at (left source) (given source) (source_faults source), sink_at (taken sink) (sink_faults sink))) initial history
+known_link link left given source_faults sink_link taken sink_faults numbered told first read source sink None history back = absurd back
+known_link link left given source_faults sink_link taken sink_faults numbered told first read source sink (Some initial) history (kept, gives) = (
+  record { number = kept.number; took = kept.took; never_falls = kept.never_falls; failed = kept.failed; counted = kept.counted },
+  record {
+    number = λ is. kept.number;
+    first = gives.first;
+    is_first = gives.is_first;
+    gave = gives.gave;
+    never_falls = gives.never_falls;
+    failed = gives.failed;
+    counted = gives.counted;
+    stop = gives.stop;
+  },
+)
+
+-- the addresses that a dialer was asked for, if none is known
+none_asked : (sink : Option InitialSink) (past : List PastLink) → AskedEach [] sink past None None
+none_asked sink [] = refl
+none_asked sink (p ∷ past) = (None, none_asked p.sink past, by sink) where
+  by : (s : Option InitialSink) → AskedIf s [] None None
+  by None = refl
+  by (Some s) = tt
+
+-- what was given back, by what is known of its source and its sink; its link isn't dialled again
+pub back_known : {I O D : Type 0} (link : I → ℕ) (left given : I → Option (List ℕ)) (source_faults : I → ℕ) (sink_link : O → ℕ) (taken : O → Option (List ℕ)) (sink_faults : O → ℕ) (allows : Call → Form → Type 0) (seen : List Entry) (mine : List ℕ) (first : I)
+    (first_dialer : D) (addr : List ℕ) (read : ℕ) (r : RequesterSide) (source : I) (sink : O) (dialer : D)
+    → GivesBack link left given source_faults sink_link taken sink_faults (λ d. None) (λ d. None) (λ d. last_count) allows seen mine first first_dialer addr read r (Some (source, sink)) dialer
+    → GivesBack {I = SourceAt} {O = SinkAt} {D = Unit {0}} (λ x. sink_link sink) (λ x. x.left) (λ x. x.given) (λ x. x.faults) (λ x. sink_link sink) (λ x. x.taken) (λ x. x.faults) (λ d. None) (λ d. None) (λ d. last_count) allows seen mine
+    (source_at (left first) (given first) (source_faults first)) tt [] read r (Some (source_at (left source) (given source) (source_faults source), sink_at (taken sink) (sink_faults sink))) tt
+back_known link left given source_faults sink_link taken sink_faults allows seen mine first first_dialer addr read r source sink dialer b = record {
   history = b.history;
   begins = b.begins;
   lies = b.lies;
@@ -219,22 +254,17 @@ back_known left given source_faults taken sink_faults allows seen mine first rea
   is_initial = b.is_initial;
   represents = b.represents;
   calls = b.calls;
-  took = b.took;
-  sink_count = b.sink_count;
-  sink_counted = b.sink_counted;
-  sink_failed = b.sink_failed;
   in_order = b.in_order;
   allowed = b.allowed;
   closes_calls = b.closes_calls;
   output = b.output;
   in_full = b.in_full;
   may_follow = b.may_follow;
+  within_tries = b.within_tries;
   fed = b.fed;
-  gave = b.gave;
   read = b.read;
-  source_count = b.source_count;
-  source_counted = b.source_counted;
-  stop = b.stop;
+  link_is = known_link link left given source_faults sink_link taken sink_faults (is_some b.initial.tries) false first (read + length (bytes_fed b.history)) source sink (sink_of b.history) b.history b.link_is;
+  dialer_is = record { open_link = b.dialer_is.open_link; hung_up = b.dialer_is.hung_up; dialled = none_asked (sink_of b.history) (present b.history).left; counted = b.dialer_is.counted; failed = b.dialer_is.failed };
 }
 
 -- a list of one that is another list of one

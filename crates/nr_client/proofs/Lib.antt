@@ -1,5 +1,7 @@
 pub mod Answering
 pub mod AskedReads
+pub mod CallerSteps
+pub mod CallerTickets
 pub mod CallsMade
 pub mod FileEnds
 pub mod FilePieces
@@ -8,8 +10,10 @@ pub mod FileWriting
 pub mod InputWindows
 pub mod JobCalls
 pub mod JobReading
+pub mod LinkRelations
 pub mod Listings
 pub mod Moves
+pub mod NumberedLinks
 pub mod Outcomes
 pub mod Pieces
 pub mod Refusals

@@ -8,36 +8,36 @@ use Rattle.nr_reduce.specs.declared.call.Outcome.{Outcome}
 use Rattle.nr_client.specs.declared.client_end.ClientEnd.{ClientEnd}
 use Rattle.nr_client.specs.declared.client_end.ClientEnd.TheVariants as client
 use Rattle.nr_client.specs.declared.listing.Listed.{Listed}
-use Rattle.nr_client.specs.Following.{Follows, Next}
+use Rattle.nr_client.specs.Following.{Next, FollowsOver}
 use Rattle.nr_client.specs.Following.Next.{Calls, Returns}
 use Rattle.nr_client.specs.Listing.{entries_max, eof_offset, is_empty, is_stuck, last_cookie, list_from, listed_after, listed_or, listed_with, no_progress, readdir_call, readdir_result}
-use Rattle.nr_client.specs.Requests.{Asks}
 use Rattle.nr_client.specs.Results.{Gives}
-use Rattle.nr_client.specs.Views.{LinkView}
+use Rattle.nr_client.specs.Relations.{CallRelations}
+use Rattle.nr_client.specs.Requests.{AsksOver}
 use Rattle.nr_client.proofs.Sequences.{LeadsTo, ends_there, given_end, gives_itself, goes_on, returns_at_once}
 
 -- ---- From call to call
 
-module _ (uid gid : ℕ) (whole : List Outcome → Next (List (List ℕ))) (dir : List ℕ) (listed : Listed) (unfinished : listed.eof ≡ false) (b c d : LinkView)
-    (so_far : LeadsTo whole b (list_from uid gid dir listed) c) where
+module _ {V : Type 0} (rel : CallRelations V) (uid gid : ℕ) (whole : List Outcome → Next (List (List ℕ))) (dir : List ℕ) (listed : Listed) (unfinished : listed.eof ≡ false) (b c d : V)
+    (so_far : LeadsTo rel whole b (list_from uid gid dir listed) c) where
   first : list_from uid gid dir listed [] ≡ Calls (readdir_call uid gid dir listed.cookie listed.verifier)
   first = ap (λ (eof : Bool). if eof then Returns (Ok listed.names) else Calls (readdir_call uid gid dir listed.cookie listed.verifier)) unfinished
 
-  pub list_goes_on : (more : Listed) → Asks (listed_after listed) (readdir_call uid gid dir listed.cookie listed.verifier) c d (Ok more) → LeadsTo whole b (list_from uid gid dir more) d
+  pub list_goes_on : (more : Listed) → AsksOver rel (listed_after listed) (readdir_call uid gid dir listed.cookie listed.verifier) c d (Ok more) → LeadsTo rel whole b (list_from uid gid dir more) d
   list_goes_on more asks = λ e result rest.
       so_far e result
-      (goes_on (list_from uid gid dir listed) (readdir_call uid gid dir listed.cookie listed.verifier) (listed_after listed) (list_from uid gid dir) more c d e result first (λ outcome. refl) asks rest)
+      (goes_on rel (list_from uid gid dir listed) (readdir_call uid gid dir listed.cookie listed.verifier) (listed_after listed) (list_from uid gid dir) more c d e result first (λ outcome. refl) asks rest)
 
-  pub list_stops : (end : ClientEnd) → Asks (listed_after listed) (readdir_call uid gid dir listed.cookie listed.verifier) c d (Err end) → Follows whole b d (Err end)
+  pub list_stops : (end : ClientEnd) → AsksOver rel (listed_after listed) (readdir_call uid gid dir listed.cookie listed.verifier) c d (Err end) → FollowsOver rel whole b d (Err end)
   list_stops end asks =
       so_far d (Err end)
-      (ends_there (list_from uid gid dir listed) (readdir_call uid gid dir listed.cookie listed.verifier) (listed_after listed) (list_from uid gid dir) end c d first (λ outcome. refl) asks)
+      (ends_there rel (list_from uid gid dir listed) (readdir_call uid gid dir listed.cookie listed.verifier) (listed_after listed) (list_from uid gid dir) end c d first (λ outcome. refl) asks)
 
-pub list_ends : (uid gid : ℕ) (whole : List Outcome → Next (List (List ℕ))) (dir : List ℕ) (listed : Listed) (b c : LinkView)
-    → listed.eof ≡ true → LeadsTo whole b (list_from uid gid dir listed) c → Follows whole b c (Ok listed.names)
-list_ends uid gid whole dir listed b c finished so_far =
+pub list_ends : {V : Type 0} (rel : CallRelations V) (uid gid : ℕ) (whole : List Outcome → Next (List (List ℕ))) (dir : List ℕ) (listed : Listed) (b c : V)
+    → listed.eof ≡ true → LeadsTo rel whole b (list_from uid gid dir listed) c → FollowsOver rel whole b c (Ok listed.names)
+list_ends {V} rel uid gid whole dir listed b c finished so_far =
     so_far c (Ok listed.names)
-    (returns_at_once (list_from uid gid dir listed) (Ok listed.names) (Ok listed.names) c
+    (returns_at_once rel (list_from uid gid dir listed) (Ok listed.names) (Ok listed.names) c
     (ap (λ (eof : Bool). if eof then Returns (Ok listed.names) else Calls (readdir_call uid gid dir listed.cookie listed.verifier)) finished) refl)
 
 -- ---- One part of the directory
@@ -132,10 +132,10 @@ shrinks_or : (listed more : Listed) (at : ℕ) (read : Result ReaddirOk ClientEn
 shrinks_or listed more at (Ok listing) is = shrinks listed more listing at is
 shrinks_or listed more at (Err end) is = absurd (let wrong : Err end ≡ Ok more = is in cc)
 
-pub asked_shrinks : (call : Call) (listed more : Listed) (b c : LinkView) → Asks (listed_after listed) call b c (Ok more) → Shrinks listed more
-asked_shrinks call listed more b c (inl (outcome, (answers, gives))) = shrinks_or listed more (eof_offset outcome) (readdir_result outcome) gives
-asked_shrinks call listed more b c (inr (inl (cause, (is, given_up)))) = absurd (let wrong : Ok more ≡ Err (client.Link cause) = is in cc)
-asked_shrinks call listed more b c (inr (inr (is, same))) = absurd (let wrong : Ok more ≡ Err client.Memory = is in cc)
+pub asked_shrinks : {V : Type 0} (rel : CallRelations V) (call : Call) (listed more : Listed) (b c : V) → AsksOver rel (listed_after listed) call b c (Ok more) → Shrinks listed more
+asked_shrinks {V} rel call listed more b c (inl (outcome, (answers, gives))) = shrinks_or listed more (eof_offset outcome) (readdir_result outcome) gives
+asked_shrinks {V} rel call listed more b c (inr (inl (cause, (is, given_up)))) = absurd (let wrong : Ok more ≡ Err (client.Link cause) = is in cc)
+asked_shrinks {V} rel call listed more b c (inr (inr (is, same))) = absurd (let wrong : Ok more ≡ Err client.Memory = is in cc)
 
 -- ---- The results of a call
 

@@ -13,7 +13,8 @@ use Rattle.nr_reduce.specs.declared.call.Call.{Call}
 use Rattle.nr_client.specs.declared.client_end.ClientEnd.{ClientEnd}
 use Rattle.nr_client.specs.declared.client_end.ClientEnd.TheVariants as client
 use Rattle.nr_client.specs.declared.client_end.RpcKind.TheVariants as kinds
-use Rattle.nr_client.specs.Requests.{client_call, machine, SinkFaults, SourceFaults}
+use Rattle.nr_client.specs.Relations.{CallRelations}
+use Rattle.nr_client.specs.Requests.{CountsFaultsOver, client_call, machine}
 use Rattle.nr_client.specs.Results.{Gives, IsOfCall, IsOfReply, result_by_reading, result_of_reply, results_in, results_or, results_start}
 use Rattle.nr_client.proofs.Sequences.{gives_itself}
 
@@ -64,37 +65,21 @@ pub gives_no_results : {A : Type 0} (codec : Codec A) (payload : List ℕ) (end 
 gives_no_results {A} codec payload end is = subst (λ (r : Result A ClientEnd). Gives {A = A} (Err end) r) (sym (starts_nowhere codec payload (reply_of payload) end is)) (gives_itself A end)
 
 -- a reply was read, so no fault count rose
-pub no_source_fault : {A : Type 0} (result : Result A ClientEnd) (before after : ℕ) → IfErr result IsOfReply → after ≡ before → SourceFaults result before after
-no_source_fault (Ok value) before after link same = same
-no_source_fault (Err client.DialFault) before after link same = same
-no_source_fault (Err (client.Link end)) before after link same = absurd link
-no_source_fault (Err (client.Rpc kind code)) before after link same = same
-no_source_fault (Err (client.Mount status)) before after link same = same
-no_source_fault (Err (client.Nfs status)) before after link same = same
-no_source_fault (Err client.Chunk) before after link same = same
-no_source_fault (Err (client.Version low high)) before after link same = same
-no_source_fault (Err (client.BadReply at reason)) before after link same = same
-no_source_fault (Err (client.BadPath at)) before after link same = same
-no_source_fault (Err client.InputFault) before after link same = same
-no_source_fault (Err client.OutputFault) before after link same = same
-no_source_fault (Err (client.Budget count)) before after link same = same
-no_source_fault (Err client.Memory) before after link same = same
-
-pub no_sink_fault : {A : Type 0} (result : Result A ClientEnd) (before after : ℕ) → IfErr result IsOfReply → after ≡ before → SinkFaults result before after
-no_sink_fault (Ok value) before after link same = same
-no_sink_fault (Err client.DialFault) before after link same = same
-no_sink_fault (Err (client.Link end)) before after link same = absurd link
-no_sink_fault (Err (client.Rpc kind code)) before after link same = same
-no_sink_fault (Err (client.Mount status)) before after link same = same
-no_sink_fault (Err (client.Nfs status)) before after link same = same
-no_sink_fault (Err client.Chunk) before after link same = same
-no_sink_fault (Err (client.Version low high)) before after link same = same
-no_sink_fault (Err (client.BadReply at reason)) before after link same = same
-no_sink_fault (Err (client.BadPath at)) before after link same = same
-no_sink_fault (Err client.InputFault) before after link same = same
-no_sink_fault (Err client.OutputFault) before after link same = same
-no_sink_fault (Err (client.Budget count)) before after link same = same
-no_sink_fault (Err client.Memory) before after link same = same
+pub no_fault : {A V : Type 0} (rel : CallRelations V) (result : Result A ClientEnd) (v w : V) → IfErr result IsOfReply → rel.faults w ≡ rel.faults v → CountsFaultsOver rel result v w
+no_fault rel (Ok value) v w reply same = same
+no_fault rel (Err (client.Link end)) v w reply same = absurd reply
+no_fault rel (Err client.DialFault) v w reply same = same
+no_fault rel (Err (client.Rpc kind code)) v w reply same = same
+no_fault rel (Err (client.Mount status)) v w reply same = same
+no_fault rel (Err (client.Nfs status)) v w reply same = same
+no_fault rel (Err client.Chunk) v w reply same = same
+no_fault rel (Err (client.Version low high)) v w reply same = same
+no_fault rel (Err (client.BadReply at reason)) v w reply same = same
+no_fault rel (Err (client.BadPath at)) v w reply same = same
+no_fault rel (Err client.InputFault) v w reply same = same
+no_fault rel (Err client.OutputFault) v w reply same = same
+no_fault rel (Err (client.Budget count)) v w reply same = same
+no_fault rel (Err client.Memory) v w reply same = same
 
 -- the call that was asked for
 pub same_asked : {given : Result Call Memory} (call asked : Call) → given ≡ Ok call → IfOk given (λ c. c ≡ asked) → call ≡ asked

@@ -17,9 +17,9 @@ use Rattle.nr_requester.specs.RequesterState.{RequesterSide, RequesterState}
 use Rattle.nr_requester.specs.Answers.{answer_by_plan, answer_if, answer_of, plan_under}
 use Rattle.nr_requester.specs.MaySubmit.{may_submit}
 use Rattle.nr_requester.proofs.MaySubmit.{answer_in_window}
+use Rattle.nr_shared.specs.declared.call_end.CallEnd.{CallEnd}
+use Rattle.nr_shared.specs.declared.call_end.CallEnd.TheVariants as calls
 use Rattle.nr_client.specs.Ending.{HasCredit, IsCause, IsEndOf, LinkCause, SinkCountAt, SourceCountAt}
-use Rattle.nr_client.specs.declared.call_end.CallEnd.{CallEnd}
-use Rattle.nr_client.specs.declared.call_end.CallEnd.TheVariants as calls
 
 -- an answer that isn't for want of a credit, nor for an xid too far above the least one, and the end in it
 abbrev Credited : Submission → Type 0
@@ -103,6 +103,8 @@ link_cause h call (calls.Ended end) left read cause = cause
 link_cause h call calls.LinkRead left read cause = cause
 link_cause h call calls.LinkWrite left read cause = cause
 link_cause h call calls.Closed left read cause = cause
+link_cause h call (calls.Tries n) left read cause = absurd cause
+link_cause h call calls.DialFault left read cause = absurd cause
 link_cause h call (calls.Spent left_over need) left read cause = absurd cause
 link_cause h call (calls.TooLarge need room) left read cause = absurd cause
 link_cause h call (calls.Budget count) left read cause = cause

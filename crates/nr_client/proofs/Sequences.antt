@@ -4,11 +4,11 @@ use Rattle.nr_reduce.specs.declared.call.Call.{Call}
 use Rattle.nr_reduce.specs.declared.call.Outcome.{Outcome}
 use Rattle.nr_client.specs.declared.client_end.ClientEnd.{ClientEnd}
 use Rattle.nr_client.specs.declared.client_end.ClientEnd.TheVariants as client
-use Rattle.nr_client.specs.Following.{EndsWith, Follows, MakesCalls, Next, go_on}
+use Rattle.nr_client.specs.Following.{Next, go_on, FollowsOver, MakesCallsOver, EndsWithOver}
 use Rattle.nr_client.specs.Following.Next.{Calls, Returns}
-use Rattle.nr_client.specs.Requests.{Asks}
 use Rattle.nr_client.specs.Results.{Gives}
-use Rattle.nr_client.specs.Views.{LinkView}
+use Rattle.nr_client.specs.Relations.{CallRelations}
+use Rattle.nr_client.specs.Requests.{AsksOver}
 
 pub gives_itself : (A : Type 0) (end : ClientEnd) → Gives {A = A} (Err end) (Err end)
 gives_itself A client.DialFault = refl
@@ -41,21 +41,21 @@ given_end (client.Budget count) read gives = inr gives
 given_end client.Memory read gives = inl refl
 
 -- memory runs out at any moment
-out_at : {A : Type 0} (next : Next A) (b : LinkView) → EndsWith next b b (Err client.Memory)
-out_at (Calls call) b = (client.Memory, (refl, inr (refl, refl)))
-out_at (Returns answer) b = (tt, refl)
+out_at : {V : Type 0} {A : Type 0} (rel : CallRelations V) (next : Next A) (b : V) → EndsWithOver rel next b b (Err client.Memory)
+out_at {V} rel (Calls call) b = (client.Memory, (refl, inr (refl, refl)))
+out_at {V} rel (Returns answer) b = (tt, refl)
 
-pub runs_out : {A : Type 0} (request : List Outcome → Next A) (b : LinkView) → Follows request b b (Err client.Memory)
-runs_out request b = record { outcomes = []; between = b; made = refl; ends = out_at (request []) b }
+pub runs_out : {V : Type 0} {A : Type 0} (rel : CallRelations V) (request : List Outcome → Next A) (b : V) → FollowsOver rel request b b (Err client.Memory)
+runs_out {V} rel request b = record { outcomes = []; between = b; made = refl; ends = out_at rel (request []) b }
 
 -- a request that has its result
-pub returns_at_once : {A : Type 0} (request : List Outcome → Next A) (answer result : Result A ClientEnd) (b : LinkView)
-    → request [] ≡ Returns answer → Gives result answer → Follows request b b result
-returns_at_once {A} request answer result b is gives = record {
+pub returns_at_once : {V : Type 0} {A : Type 0} (rel : CallRelations V) (request : List Outcome → Next A) (answer result : Result A ClientEnd) (b : V)
+    → request [] ≡ Returns answer → Gives result answer → FollowsOver rel request b b result
+returns_at_once {V} {A} rel request answer result b is gives = record {
   outcomes = [];
   between = b;
   made = refl;
-  ends = subst (λ (next : Next A). EndsWith next b b result) (sym is) (gives, refl);
+  ends = subst (λ (next : Next A). EndsWithOver rel next b b result) (sym is) (gives, refl);
 }
 
 -- after a first call the request goes on with what its outcome is read as
@@ -63,60 +63,60 @@ abbrev pub Follow : {A B : Type 0} → (List Outcome → Next A) → (Outcome �
 Follow {A} request reads next = (outcome : Outcome) → ◌≡◌ {A = List Outcome → Next A} (λ later. request (outcome ∷ later)) (λ later. go_on (reads outcome) (λ v. next v later))
 
 -- A call was answered, and read as a value; then the request goes on with what follows from that.
-pub goes_on : {A B : Type 0} (request : List Outcome → Next A) (call : Call) (reads : Outcome → Result B ClientEnd) (next : B → List Outcome → Next A) (value : B)
-    (b c d : LinkView) (result : Result A ClientEnd)
+pub goes_on : {V : Type 0} {A B : Type 0} (rel : CallRelations V) (request : List Outcome → Next A) (call : Call) (reads : Outcome → Result B ClientEnd) (next : B → List Outcome → Next A) (value : B)
+    (b c d : V) (result : Result A ClientEnd)
     → request [] ≡ Calls call → Follow request reads next
-    → Asks reads call b c (Ok value) → Follows (next value) c d result → Follows request b d result
-goes_on {A} {B} request call reads next value b c d result first later (inl (outcome, (answers, gives))) rest =
+    → AsksOver rel reads call b c (Ok value) → FollowsOver rel (next value) c d result → FollowsOver rel request b d result
+goes_on {V} {A} {B} rel request call reads next value b c d result first later (inl (outcome, (answers, gives))) rest =
     let same : ◌≡◌ {A = List Outcome → Next A} (λ later. request (outcome ∷ later)) (next value) =
     later outcome ∙ ap (λ (r : Result B ClientEnd). λ (outcomes : List Outcome). go_on r (λ v. next v outcomes)) gives in
     record {
       outcomes = outcome ∷ rest.outcomes;
       between = rest.between;
-      made = (call, c, (first, (answers, subst (λ (f : List Outcome → Next A). MakesCalls f rest.outcomes c rest.between) (sym same) rest.made)));
-      ends = subst (λ (f : List Outcome → Next A). EndsWith (f rest.outcomes) rest.between d result) (sym same) rest.ends;
+      made = (call, c, (first, (answers, subst (λ (f : List Outcome → Next A). MakesCallsOver rel f rest.outcomes c rest.between) (sym same) rest.made)));
+      ends = subst (λ (f : List Outcome → Next A). EndsWithOver rel (f rest.outcomes) rest.between d result) (sym same) rest.ends;
     }
-goes_on request call reads next value b c d result first later (inr (inl (cause, (is, given_up)))) rest = absurd (let wrong : Ok value ≡ Err (client.Link cause) = is in cc)
-goes_on request call reads next value b c d result first later (inr (inr (is, same))) rest = absurd (let wrong : Ok value ≡ Err client.Memory = is in cc)
+goes_on {V} rel request call reads next value b c d result first later (inr (inl (cause, (is, given_up)))) rest = absurd (let wrong : Ok value ≡ Err (client.Link cause) = is in cc)
+goes_on {V} rel request call reads next value b c d result first later (inr (inr (is, same))) rest = absurd (let wrong : Ok value ≡ Err client.Memory = is in cc)
 
 -- the end of a call that has no result
 abbrev pub end_of : {A : Type 0} → Result A ClientEnd → ClientEnd
 end_of (Ok value) = client.Memory
 end_of (Err end) = end
 
-ended : {A B : Type 0} (end : ClientEnd) (next : Next A) (read : Result B ClientEnd) (more : B → Next A) (b : LinkView)
-    → next ≡ go_on read more → (end ≡ client.Memory) ⊎ (read ≡ Err end) → EndsWith next b b (Err end)
-ended {A} end next read more b is (inl out) = subst (λ (e : ClientEnd). EndsWith next b b (Err e)) (sym out) (out_at next b)
-ended {A} {B} end next read more b is (inr failed) =
+ended : {V : Type 0} {A B : Type 0} (rel : CallRelations V) (end : ClientEnd) (next : Next A) (read : Result B ClientEnd) (more : B → Next A) (b : V)
+    → next ≡ go_on read more → (end ≡ client.Memory) ⊎ (read ≡ Err end) → EndsWithOver rel next b b (Err end)
+ended {V} {A} rel end next read more b is (inl out) = subst (λ (e : ClientEnd). EndsWithOver rel next b b (Err e)) (sym out) (out_at rel next b)
+ended {V} {A} {B} rel end next read more b is (inr failed) =
     let returns : next ≡ Returns (Err end) = is ∙ ap (λ (r : Result B ClientEnd). go_on r more) failed in
-    subst (λ (n : Next A). EndsWith n b b (Err end)) (sym returns) (gives_itself A end, refl)
+    subst (λ (n : Next A). EndsWithOver rel n b b (Err end)) (sym returns) (gives_itself A end, refl)
 
 -- A call was made and had no result, or it has no answer: so the request has none.
-pub ends_there : {A B : Type 0} (request : List Outcome → Next A) (call : Call) (reads : Outcome → Result B ClientEnd) (next : B → List Outcome → Next A) (end : ClientEnd)
-    (b c : LinkView)
+pub ends_there : {V : Type 0} {A B : Type 0} (rel : CallRelations V) (request : List Outcome → Next A) (call : Call) (reads : Outcome → Result B ClientEnd) (next : B → List Outcome → Next A) (end : ClientEnd)
+    (b c : V)
     → request [] ≡ Calls call → Follow request reads next
-    → Asks reads call b c (Err end) → Follows request b c (Err end)
-ends_there {A} {B} request call reads next end b c first later (inl (outcome, (answers, gives))) = record {
+    → AsksOver rel reads call b c (Err end) → FollowsOver rel request b c (Err end)
+ends_there {V} {A} {B} rel request call reads next end b c first later (inl (outcome, (answers, gives))) = record {
   outcomes = outcome ∷ [];
   between = c;
   made = (call, c, (first, (answers, refl)));
-  ends = ended end (request (outcome ∷ [])) (reads outcome) (λ v. next v []) c (ap (λ (f : List Outcome → Next A). f []) (later outcome)) (given_end end (reads outcome) gives);
+  ends = ended rel end (request (outcome ∷ [])) (reads outcome) (λ v. next v []) c (ap (λ (f : List Outcome → Next A). f []) (later outcome)) (given_end end (reads outcome) gives);
 }
-ends_there {A} {B} request call reads next end b c first later (inr (inl (cause, (is, given_up)))) = record {
+ends_there {V} {A} {B} rel request call reads next end b c first later (inr (inl (cause, (is, given_up)))) = record {
   outcomes = [];
   between = b;
   made = refl;
-  ends = subst (λ (n : Next A). EndsWith n b c (Err end)) (sym first) (end, (refl, inl (cause, (ap (λ (r : Result B ClientEnd). end_of r) is, given_up))));
+  ends = subst (λ (n : Next A). EndsWithOver rel n b c (Err end)) (sym first) (end, (refl, inl (cause, (ap (λ (r : Result B ClientEnd). end_of r) is, given_up))));
 }
-ends_there {A} {B} request call reads next end b c first later (inr (inr (is, same))) = record {
+ends_there {V} {A} {B} rel request call reads next end b c first later (inr (inr (is, same))) = record {
   outcomes = [];
   between = b;
   made = refl;
-  ends = subst (λ (n : Next A). EndsWith n b c (Err end)) (sym first) (end, (refl, inr (ap (λ (r : Result B ClientEnd). end_of r) is, same)));
+  ends = subst (λ (n : Next A). EndsWithOver rel n b c (Err end)) (sym first) (end, (refl, inr (ap (λ (r : Result B ClientEnd). end_of r) is, same)));
 }
 
 -- ---- What is left of a request
 
 -- However what is left of a request ends, the complete request ends so.
-abbrev pub LeadsTo : {A : Type 0} → (whole : List Outcome → Next A) (b : LinkView) (rest : List Outcome → Next A) (c : LinkView) → Type 0
-LeadsTo {A} whole b rest c = (d : LinkView) (result : Result A ClientEnd) → Follows rest c d result → Follows whole b d result
+abbrev pub LeadsTo : {V : Type 0} {A : Type 0} → (rel : CallRelations V) (whole : List Outcome → Next A) (b : V) (rest : List Outcome → Next A) (c : V) → Type 0
+LeadsTo {V} {A} rel whole b rest c = (d : V) (result : Result A ClientEnd) → FollowsOver rel rest c d result → FollowsOver rel whole b d result

@@ -21,8 +21,8 @@ use Rattle.nr_requester.specs.RequesterState.{RequesterSide, queue_of, kept_clie
 use Rattle.nr_requester.proofs.Queues.{written_writable}
 use Rattle.nr_requester.specs.Standing.{StandsOn}
 use Rattle.nr_requester.proofs.OwnLaw.{drain_keeps_law, drain_keeps_grant, piece_keeps_law}
-use Rattle.nr_client.specs.declared.call_end.CallEnd.{CallEnd}
-use Rattle.nr_client.specs.declared.call_end.CallEnd.TheVariants as calls
+use Rattle.nr_shared.specs.declared.call_end.CallEnd.{CallEnd}
+use Rattle.nr_shared.specs.declared.call_end.CallEnd.TheVariants as calls
 use Rattle.nr_client.specs.Ending.{SinkCountAt, SourceCountAt}
 use Rattle.nr_client.specs.Steps.{FeedsOut, GoesOn, GoesTo, HasCreditLeft, HasWrittenAt, IsCutShort, IsDrained, IsLeft, IsLive, LacksCredit, Reads, ReadsTo, WholeIfWrote, Writes, WritesFirst, WritesInFull, WritesInFullTo, WritesTo, WrittenIfFed}
 use Rattle.nr_client.specs.Transfers.{LinkBytes, link_bytes}

@@ -17,7 +17,7 @@ use Rattle.nr_requester.specs.Standing.{RequesterRepresents}
 use Rattle.nr_requester.specs.OpenCalls.{call_with, found_answer, open_call}
 use Rattle.nr_requester.proofs.DueAnswers.{Among, from_among, to_among, in_filter}
 use Rattle.nr_requester.proofs.OpenTickets.{open_is_awaited}
-use Rattle.nr_client.specs.declared.call_end.CallEnd.{CallEnd}
+use Rattle.nr_shared.specs.declared.call_end.CallEnd.{CallEnd}
 use Rattle.nr_client.specs.Steps.{AnswersNone, LacksAnswer}
 
 abbrev none_of : AnsweredCall → Option AnsweredCall

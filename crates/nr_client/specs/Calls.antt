@@ -1,5 +1,5 @@
 -- What a call over a link makes of the marks that its requester stands for.
-use Rattle.std.specs.Prelude.{◌≡◌, ◌≢◌, Contains, ℕ, ◌⊎◌, List, [], ◌∷◌, ◌++◌, None}
+use Rattle.std.specs.Prelude.{◌≡◌, ◌≢◌, ◌≤◌, Contains, ℕ, ◌⊎◌, List, [], ◌∷◌, ◌++◌, None, Some}
 use Rattle.nr_wire.specs.declared.hello.Side.TheVariants.{Initiator}
 use Rattle.nr_reduce.specs.declared.call.Call.{Call}
 use Rattle.nr_reduce.specs.declared.call.Outcome.{Outcome}
@@ -11,16 +11,19 @@ use Rattle.nr_reduce.specs.declared.mark.Mark.TheVariants as marks
 use Rattle.nr_link.specs.declared.end.End.TheVariants as ends
 use Rattle.nr_reduce.specs.History.{CompletedCall, bytes_received}
 use Rattle.nr_reduce.specs.Run.{client}
-use Rattle.nr_client.specs.declared.call_end.CallEnd.TheVariants as calls
+use Rattle.nr_shared.specs.declared.call_end.CallEnd.TheVariants as calls
 use Rattle.nr_reduce.specs.Opening.{IsOpened}
+use Rattle.nr_links.specs.Limits.{read_max}
 use Rattle.nr_requester.specs.RequesterState.{RequesterSide}
 use Rattle.nr_requester.specs.Answers.{answer_of}
+use Rattle.nr_requester.specs.OpenCalls.{open_call}
 use Rattle.nr_requester.specs.Standing.{StandsOn}
-use Rattle.nr_client.specs.Ending.{LinkCause}
-use Rattle.nr_client.specs.Steps.{GoesTo, HasCreditLeft, HasWrittenAt, IsLeft, IsLive, IsOut, ReadsNone, WritesFirst, WritesInFull, WritesInFullTo}
+use Rattle.nr_client.specs.Ending.{IsCauseIn, LinkCause, SinkCountAt, SourceCountAt}
+use Rattle.nr_client.specs.Relations.{CallRelations}
+use Rattle.nr_client.specs.Steps.{GoesTo, HasCreditLeft, HasWrittenAt, IsLeft, IsLive, IsOut, LacksCredit, ReadsNone, WritesFirst, WritesInFull, WritesInFullTo}
 use Rattle.nr_client.specs.Transfers.{LinkBytes, Moves}
 use Rattle.nr_client.specs.Views.{LinkView}
-use Rattle.nr_client.specs.declared.call_end.CallEnd.{CallEnd}
+use Rattle.nr_shared.specs.declared.call_end.CallEnd.{CallEnd}
 
 -- the marks up to a Submit, after bytes moved while the call waited for a credit
 abbrev pub run_to_submit : List Mark → ℕ → Call → ℕ → (waits : List Mark) → List Mark
@@ -135,7 +138,38 @@ abbrev pub ForgetsCall : ℕ → (v w : LinkView) → Type 0
 ForgetsCall xid v w =
     AddsForget xid v.requester w.requester × ((w.bytes ≡ v.bytes) × ((w.source_faults ≡ v.source_faults) × (w.sink_faults ≡ v.sink_faults)))
 
--- these calls are forgotten, one after another
-abbrev pub ForgetsCalls : List ℕ → (v w : LinkView) → Type 0
-ForgetsCalls [] v w = w ≡ v
-ForgetsCalls (xid ∷ xids) v w = (mid : LinkView) × (ForgetsCall xid v mid × ForgetsCalls xids mid w)
+-- ---- The relations of a link that one caller has
+
+-- the fault counts of its source and its sink: each rises at one end alone
+pub record LinkFaults : Type 0 where
+  pub source : ℕ
+  pub sink : ℕ
+
+abbrev pub faults_of : LinkView → LinkFaults
+faults_of v = record { source = v.source_faults; sink = v.sink_faults }
+
+abbrev pub CountsAt : CallEnd → (before after : LinkFaults) → Type 0
+CountsAt end before after = SourceCountAt end before.source after.source × SinkCountAt end before.sink after.sink
+
+-- memory didn't run out for a frame
+abbrev pub HasMemory : LinkView → Type 0
+HasMemory v = v.requester.state.side.ended ≢ Some ends.Memory
+
+abbrev pub link_relations : CallRelations LinkView
+link_relations = record {
+  answers = λ v w call outcome. Answers v w call outcome × HasMemory w;
+  gives_up = λ v w call end. GivesUp v w call end × IsCauseIn end w call;
+  submits = Submits;
+  refuses = λ v w call end. RefusesToSubmit v w call end × IsCauseIn end w call;
+  completes = Completes;
+  forgets = λ xid end v w. Forgets xid end v w × LinkCause end w.bytes.left w.bytes.read w.requester;
+  forgets_call = ForgetsCall;
+  looks = λ v w. w ≡ v;
+  Faults = LinkFaults;
+  faults = faults_of;
+  counts = CountsAt;
+  has_credit = λ v. HasCreditLeft v.requester;
+  lacks_credit = λ v. LacksCredit v.requester;
+  open_call = λ v xid. open_call xid v.requester.state;
+  is_within = λ v. v.bytes.read ≤ read_max;
+}

@@ -10,9 +10,9 @@ use Rattle.nr_reduce.specs.declared.call.Submission.TheVariants as submissions
 use Rattle.nr_links.specs.Limits.{read_max}
 use Rattle.nr_requester.specs.RequesterState.{RequesterSide, queue_of}
 use Rattle.nr_requester.specs.Answers.{answer_of}
+use Rattle.nr_shared.specs.declared.call_end.CallEnd.{CallEnd}
+use Rattle.nr_shared.specs.declared.call_end.CallEnd.TheVariants as calls
 use Rattle.nr_client.specs.Views.{LinkView}
-use Rattle.nr_client.specs.declared.call_end.CallEnd.{CallEnd}
-use Rattle.nr_client.specs.declared.call_end.CallEnd.TheVariants as calls
 
 -- The cause of an end of the link, by what the source has left, the number of bytes read and the requester. The end of the source ends a call
 -- only while a call is outstanding, no message of whose xid came, and all that may be written is written.
@@ -21,6 +21,8 @@ LinkCause (calls.Ended end) left read h = h.state.side.ended ≡ Some end
 LinkCause calls.LinkRead left read h = (h.state.side.ended ≡ None) × (read < read_max)
 LinkCause calls.LinkWrite left read h = ⊤
 LinkCause calls.Closed left read h = (h.state.side.ended ≡ None) × (IsAtEnd left × ((read < read_max) × ((0 < length h.state.outstanding) × (queue_of h.state ≡ []))))
+LinkCause (calls.Tries n) left read h = ⊥
+LinkCause calls.DialFault left read h = ⊥
 LinkCause (calls.Spent left_over need) left read h = ⊥
 LinkCause (calls.TooLarge need room) left read h = ⊥
 LinkCause (calls.Budget count) left read h = (h.state.side.ended ≡ None) × ((count ≡ read_max) × (read ≡ read_max))

@@ -1,7 +1,8 @@
 -- A file is read by several jobs over a shared requester.
-use Rattle.std.specs.Prelude.{◌≡◌, ⊤, ℕ, ◌<◌, ◌⊎◌, List, [], ◌∷◌, ◌++◌, Option, Some, Result, Ok, Err}
+use Rattle.std.specs.Prelude.{◌≡◌, ⊤, ℕ, ◌<◌, ◌⊎◌, List, [], ◌∷◌, ◌++◌, Option, None, Some, Result, Ok, Err}
 use mathlib.Core.Option.{some}
 use lib.ListN.{get_elem?}
+use Rattle.nr_outside.specs.Faults.{last_count}
 use Rattle.nr_outside.specs.Streams.{SinkAt, SourceAt}
 use Rattle.nr_nfs_base.specs.declared.attributes.Attributes.{Attributes}
 use Rattle.nr_reduce.specs.declared.call.Call.{Call}
@@ -10,7 +11,7 @@ use Rattle.nr_reduce.specs.declared.call.Form.TheVariants as forms
 use Rattle.nr_reduce.specs.declared.call.Outcome.{Outcome}
 use Rattle.nr_requester.specs.RequesterState.{RequesterSide}
 use Rattle.nr_turnstile.specs.Rule.{Begins, IsIn}
-use Rattle.nr_shared.specs.declared.call_end.CallEnd.{CallEnd as SharedEnd}
+use Rattle.nr_shared.specs.declared.call_end.CallEnd.{CallEnd}
 use Rattle.nr_shared.specs.declared.entry.Entry.{Entry}
 use Rattle.nr_shared.specs.declared.entry.Entry.TheVariants as entries
 use Rattle.nr_shared.specs.declared.entry.InitialState.{InitialState}
@@ -24,7 +25,6 @@ use Rattle.nr_client.specs.Following.Next.{Calls}
 use Rattle.nr_client.specs.LinkParts.{LinkParts}
 use Rattle.nr_client.specs.Reading.{EndsAtReply, TakesRead, piece_left, read_call, reading}
 use Rattle.nr_client.specs.Requests.{Asks, SinkFaults, SourceFaults, getattr_call, getattr_result}
-use Rattle.nr_client.specs.Shared.{shared_end}
 use Rattle.nr_client.specs.Views.{LinkView, link_view}
 
 -- the most jobs of a request
@@ -43,7 +43,7 @@ pub record IsExchange (seen : List Entry) (mine : List ℕ) (call : Call) (outco
   pub own : IsIn at mine × IsIn done mine
 
 -- A call has no answer, for a cause that a beginning of the history has, in which the requester was shared already.
-pub record LacksAnswer (seen : List Entry) (call : Call) (end : SharedEnd) : Type 0 where
+pub record LacksAnswer (seen : List Entry) (call : Call) (end : CallEnd) : Type 0 where
   pub before : List Entry
   pub initial : InitialState
   pub is_initial : initial_of before ≡ Some initial
@@ -72,7 +72,7 @@ abbrev pub EndsByJobs : (uid gid : ℕ) → (file : List ℕ) → (seen : List E
     → Result (Unit {0}) ClientEnd → Type 0
 EndsByJobs uid gid file seen outcomes taken taken' given =
     EndsAtReply uid gid file outcomes taken taken' given
-    ⊎ ((call : Call) × (end : SharedEnd) × ((reading uid gid file outcomes ≡ Calls call) × ((given ≡ Err (client.Link (shared_end end)))
+    ⊎ ((call : Call) × (end : CallEnd) × ((reading uid gid file outcomes ≡ Calls call) × ((given ≡ Err (client.Link end))
     × (LacksAnswer seen call end × TakesRead given outcomes taken taken'))))
 
 -- After this outcome of GETATTR a file was read into an output by callers of a shared requester, whose places one caller has at the end. The output
@@ -110,8 +110,9 @@ pub record GetsNoAttributes (uid gid : ℕ) (file : List ℕ) (end : ClientEnd) 
   pub sink_count : SinkFaults {A = Attributes} (Err end) link.sink.faults link'.sink.faults
 
 -- The requester of a link, with its source and its sink, was shared by callers that read a file of this size, which this outcome of GETATTR gave, and
--- taken back. Each call of the complete history is a READ of what is left of a piece of the file (`allowed` of GivesBack). Whatever marks the requester
--- had made, what was given back stands for those and the history's, which keep the law of its side (`represents` of GivesBack).
+-- taken back. The link, whose sink has this number, wasn't dialled again. Each call of the complete history is a READ of what is left of a piece of the
+-- file (`allowed` of GivesBack). Whatever marks the requester had made, what was given back stands for those and the history's, which keep the law of its
+-- side (`represents` of GivesBack).
 pub record ReadsShared (uid gid : ℕ) (file : List ℕ) (first : Outcome) (size : ℕ) (link : LinkAt) (source : SourceAt) (sink : SinkAt)
     (taken taken' : Option (List ℕ)) (result : Result (Unit {0}) ClientEnd) : Type 0 where
   pub initial : InitialState
@@ -119,10 +120,12 @@ pub record ReadsShared (uid gid : ℕ) (file : List ℕ) (first : Outcome) (size
   pub mine : List ℕ
   pub is_initial : initial_of seen ≡ Some initial
   pub of_requester : initial.requester ≡ link.requester
-  pub of_sink : (initial.taken ≡ link.sink.taken) × (initial.faults ≡ link.sink.faults)
+  pub of_sink : (initial.sink.taken ≡ link.sink.taken) × (initial.sink.faults ≡ link.sink.faults)
+  pub once : initial.tries ≡ None
   pub requester : RequesterSide
-  pub back : GivesBack {I = SourceAt} {O = SinkAt} (λ x. x.left) (λ x. x.given) (λ x. x.faults) (λ x. x.taken) (λ x. x.faults) (FileReads uid gid file size)
-      seen mine link.source link.read requester source sink
+  pub number : ℕ
+  pub back : GivesBack {I = SourceAt} {O = SinkAt} {D = Unit {0}} (λ x. number) (λ x. x.left) (λ x. x.given) (λ x. x.faults) (λ x. number) (λ x. x.taken) (λ x. x.faults) (λ x. None) (λ x. None) (λ x. last_count)
+      (FileReads uid gid file size) seen mine link.source tt [] link.read requester (Some (source, sink)) tt
   pub reads : ReadsByJobs uid gid file first seen mine taken taken' result
 
 -- A file was read into an output by jobs over a link, whose source and sink came back so. GETATTR was made first. It gave no size, and nothing else was

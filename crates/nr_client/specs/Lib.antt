@@ -1,3 +1,4 @@
+pub mod CallerViews
 pub mod Calls
 pub mod Dialing
 pub mod Ending
@@ -5,12 +6,14 @@ pub mod Following
 pub mod Jobs
 pub mod LinkParts
 pub mod Listing
+pub mod Numbered
 pub mod Paths
 pub mod Reading
+pub mod Relations
 pub mod Requests
 pub mod Results
 pub mod SessionState
-pub mod Shared
+pub mod SharedParts
 pub mod Steps
 pub mod Transfers
 pub mod Views

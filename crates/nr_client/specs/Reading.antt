@@ -18,16 +18,15 @@ use Rattle.nr_outside.specs.Faults.{Rises}
 use Rattle.nr_reduce.specs.declared.call.Call.{Call}
 use Rattle.nr_reduce.specs.declared.call.Outcome.{Outcome}
 use Rattle.nr_reduce.specs.declared.call.Outcome.TheVariants as outcomes
+use Rattle.nr_shared.specs.declared.call_end.CallEnd.{CallEnd}
 use Rattle.nr_client.specs.declared.client_end.ClientEnd.{ClientEnd}
 use Rattle.nr_client.specs.declared.client_end.ClientEnd.TheVariants as client
-use Rattle.nr_client.specs.declared.call_end.CallEnd.{CallEnd}
-use Rattle.nr_client.specs.Calls.{Answers, Completes, Forgets, ForgetsCalls, RefusesToSubmit, Submits}
-use Rattle.nr_client.specs.Ending.{IsCauseIn, LinkCause}
-use Rattle.nr_client.specs.Following.{Next, Unanswered}
+use Rattle.nr_client.specs.Calls.{link_relations}
+use Rattle.nr_client.specs.Following.{Next, UnansweredOver}
 use Rattle.nr_client.specs.Following.Next.{Calls, Returns}
 use Rattle.nr_client.specs.Listing.{no_progress}
+use Rattle.nr_client.specs.Relations.{CallRelations}
 use Rattle.nr_client.specs.Requests.{client_call, getattr_call, getattr_result, nfs_reads}
-use Rattle.nr_client.specs.Steps.{HasCreditLeft, LacksCredit}
 use Rattle.nr_client.specs.Views.{LinkView}
 
 -- ---- READ (RFC 1813 section 3.3.6)
@@ -130,12 +129,12 @@ abbrev pub xids_of : List OpenRead → List ℕ
 xids_of reads = map (λ (read : OpenRead). read.xid) reads
 
 -- A file that is being read: the replies, in order of offset; the READs that are outstanding, in that order too; and the link.
-pub record ReadingAt : Type 0 where
+pub record ReadingOver (V : Type 0) : Type 0 where
   pub outcomes : List Outcome
   pub waiting : List OpenRead
-  pub link : LinkView
+  pub link : V
 
-abbrev pub starts_at : LinkView → ReadingAt
+abbrev pub starts_at : {V : Type 0} → V → ReadingOver V
 starts_at v = record { outcomes = []; waiting = []; link = v }
 
 -- where the piece begins that comes after these READs, each of what is left of its piece
@@ -159,7 +158,7 @@ read_ahead uid gid file (ReadEnds end bytes) reads = None
 
 -- GETATTR, and a READ of the rest of a piece of which a READ gave less than it asked for, are made alone: no other call is submitted until the
 -- answer has come.
-abbrev pub IsMadeAlone : (uid gid : ℕ) → (file : List ℕ) → ReadingAt → Call → Type 0
+abbrev pub IsMadeAlone : {V : Type 0} → (uid gid : ℕ) → (file : List ℕ) → ReadingOver V → Call → Type 0
 IsMadeAlone uid gid file s call = (reading uid gid file s.outcomes ≡ Calls call) × (is_at_piece (file_read s.outcomes) ≡ false)
 
 -- the most READs of a file that are outstanding
@@ -167,28 +166,29 @@ abbrev pub reads_max : ℕ
 reads_max = 2
 
 -- The READ of a piece is submitted while fewer than the maximum are outstanding, if a call may be submitted. If none is outstanding, it waits for that.
-abbrev pub IsMadeAhead : (uid gid : ℕ) → (file : List ℕ) → ReadingAt → Call → Type 0
-IsMadeAhead uid gid file s call =
-    (is_at_piece (file_read s.outcomes) ≡ true) × ((read_ahead uid gid file (file_read s.outcomes) s.waiting ≡ Some call) × ((s.waiting ≡ []) ⊎ (HasCreditLeft s.link.requester × (length s.waiting < reads_max))))
+abbrev pub IsMadeAheadOver : {V : Type 0} → CallRelations V → (uid gid : ℕ) → (file : List ℕ) → ReadingOver V → Call → Type 0
+IsMadeAheadOver rel uid gid file s call =
+    (is_at_piece (file_read s.outcomes) ≡ true) × ((read_ahead uid gid file (file_read s.outcomes) s.waiting ≡ Some call) × ((s.waiting ≡ []) ⊎ (rel.has_credit s.link × (length s.waiting < reads_max))))
 
 -- no call may be submitted, or a READ of each piece up to the size is outstanding, or the maximum of READs is
-abbrev pub NoneIsMadeAhead : (uid gid : ℕ) → (file : List ℕ) → ReadingAt → Type 0
-NoneIsMadeAhead uid gid file s = (read_ahead uid gid file (file_read s.outcomes) s.waiting ≡ None) ⊎ (LacksCredit s.link.requester ⊎ (reads_max ≤ length s.waiting))
+abbrev pub NoneIsMadeAheadOver : {V : Type 0} → CallRelations V → (uid gid : ℕ) → (file : List ℕ) → ReadingOver V → Type 0
+NoneIsMadeAheadOver rel uid gid file s = (read_ahead uid gid file (file_read s.outcomes) s.waiting ≡ None) ⊎ (rel.lacks_credit s.link ⊎ (reads_max ≤ length s.waiting))
 
 -- A step: a call was made alone; or a READ was submitted ahead; or, when none is, the oldest READ was answered, which is the one that follows from
--- the replies before.
-pub data ReadStep (uid gid : ℕ) (file : List ℕ) (s t : ReadingAt) : Type 0 where
-  MakesAlone : (call : Call) (outcome : Outcome) → IsMadeAlone uid gid file s call → Answers s.link t.link call outcome
-      → t.outcomes ≡ s.outcomes ++ outcome ∷ [] → t.waiting ≡ s.waiting → ReadStep uid gid file s t
-  AsksAhead : (read : OpenRead) → IsMadeAhead uid gid file s read.call → Submits s.link t.link read.call read.xid
-      → t.outcomes ≡ s.outcomes → t.waiting ≡ s.waiting ++ read ∷ [] → ReadStep uid gid file s t
-  TakesOldest : (read : OpenRead) (outcome : Outcome) → NoneIsMadeAhead uid gid file s → reading uid gid file s.outcomes ≡ Calls read.call
-      → Completes read.xid outcome s.link t.link → t.outcomes ≡ s.outcomes ++ outcome ∷ [] → s.waiting ≡ read ∷ t.waiting → ReadStep uid gid file s t
+-- the replies before; or the link was asked whether a call can be submitted.
+pub data ReadStepOver {V : Type 0} (rel : CallRelations V) (uid gid : ℕ) (file : List ℕ) (s t : ReadingOver V) : Type 0 where
+  MakesAlone : (call : Call) (outcome : Outcome) → IsMadeAlone uid gid file s call → rel.answers s.link t.link call outcome
+      → t.outcomes ≡ s.outcomes ++ outcome ∷ [] → t.waiting ≡ s.waiting → ReadStepOver rel uid gid file s t
+  AsksAhead : (read : OpenRead) → IsMadeAheadOver rel uid gid file s read.call → rel.submits s.link t.link read.call read.xid
+      → t.outcomes ≡ s.outcomes → t.waiting ≡ s.waiting ++ read ∷ [] → ReadStepOver rel uid gid file s t
+  TakesOldest : (read : OpenRead) (outcome : Outcome) → NoneIsMadeAheadOver rel uid gid file s → reading uid gid file s.outcomes ≡ Calls read.call
+      → rel.completes read.xid outcome s.link t.link → t.outcomes ≡ s.outcomes ++ outcome ∷ [] → s.waiting ≡ read ∷ t.waiting → ReadStepOver rel uid gid file s t
+  Looks : rel.looks s.link t.link → t.outcomes ≡ s.outcomes → t.waiting ≡ s.waiting → ReadStepOver rel uid gid file s t
 
 -- Steps lead from one state to another, by these states between, the last one first.
-abbrev pub LeadsBy : (uid gid : ℕ) → (file : List ℕ) → (first : ReadingAt) → List ReadingAt → (last : ReadingAt) → Type 0
-LeadsBy uid gid file first [] last = last ≡ first
-LeadsBy uid gid file first (s ∷ states) last = ReadStep uid gid file s last × LeadsBy uid gid file first states s
+abbrev pub LeadsOver : {V : Type 0} → CallRelations V → (uid gid : ℕ) → (file : List ℕ) → (first : ReadingOver V) → List (ReadingOver V) → (last : ReadingOver V) → Type 0
+LeadsOver rel uid gid file first [] last = last ≡ first
+LeadsOver rel uid gid file first (s ∷ states) last = ReadStepOver rel uid gid file s last × LeadsOver rel uid gid file first states s
 
 -- ---- The output
 
@@ -214,30 +214,57 @@ EndsAtReply uid gid file outcomes taken taken' given =
 
 -- How it ends after these replies, with these READs still outstanding: with its result, or memory ran out; or the output failed; or the next call
 -- has no answer, or could not be submitted; or the oldest READ has no answer, and is forgotten.
-pub data EndsReading (uid gid : ℕ) (file : List ℕ) (s : ReadingAt) (left : List OpenRead) (w : LinkView) (taken taken' : Option (List ℕ)) (given : Result (Unit {0}) ClientEnd) : Type 0 where
+pub data EndsReadingOver {V : Type 0} (rel : CallRelations V) (uid gid : ℕ) (file : List ℕ) (s : ReadingOver V) (left : List OpenRead) (w : V) (taken taken' : Option (List ℕ)) (given : Result (Unit {0}) ClientEnd) : Type 0 where
   EndsByReplies : w ≡ s.link → (given ≡ Err client.Memory) ⊎ (reading uid gid file s.outcomes ≡ Returns given)
-      → left ≡ s.waiting → TakesRead given s.outcomes taken taken' → EndsReading uid gid file s left w taken taken' given
+      → left ≡ s.waiting → TakesRead given s.outcomes taken taken' → EndsReadingOver rel uid gid file s left w taken taken' given
   OutputFails : given ≡ Err client.OutputFault → w ≡ s.link → left ≡ s.waiting → TakesPart s.outcomes taken taken'
-      → EndsReading uid gid file s left w taken taken' given
-  NotAnswered : (call : Call) (end : ClientEnd) → IsMadeAlone uid gid file s call → given ≡ Err end → Unanswered call s.link w end → left ≡ s.waiting
-      → TakesRead given s.outcomes taken taken' → EndsReading uid gid file s left w taken taken' given
-  NotSubmitted : (call : Call) (end : CallEnd) → IsMadeAhead uid gid file s call → given ≡ Err (client.Link end)
-      → RefusesToSubmit s.link w call end × IsCauseIn end w call → left ≡ s.waiting
-      → TakesRead given s.outcomes taken taken' → EndsReading uid gid file s left w taken taken' given
-  OldestForgotten : (read : OpenRead) (end : CallEnd) → NoneIsMadeAhead uid gid file s → reading uid gid file s.outcomes ≡ Calls read.call → given ≡ Err (client.Link end)
-      → Forgets read.xid end s.link w × LinkCause end w.bytes.left w.bytes.read w.requester → s.waiting ≡ read ∷ left
-      → TakesRead given s.outcomes taken taken' → EndsReading uid gid file s left w taken taken' given
+      → EndsReadingOver rel uid gid file s left w taken taken' given
+  NotAnswered : (call : Call) (end : ClientEnd) → IsMadeAlone uid gid file s call → given ≡ Err end → UnansweredOver rel call s.link w end → left ≡ s.waiting
+      → TakesRead given s.outcomes taken taken' → EndsReadingOver rel uid gid file s left w taken taken' given
+  NotSubmitted : (call : Call) (end : CallEnd) → IsMadeAheadOver rel uid gid file s call → given ≡ Err (client.Link end)
+      → rel.refuses s.link w call end → left ≡ s.waiting
+      → TakesRead given s.outcomes taken taken' → EndsReadingOver rel uid gid file s left w taken taken' given
+  OldestForgotten : (read : OpenRead) (end : CallEnd) → NoneIsMadeAheadOver rel uid gid file s → reading uid gid file s.outcomes ≡ Calls read.call → given ≡ Err (client.Link end)
+      → rel.forgets read.xid end s.link w → s.waiting ≡ read ∷ left
+      → TakesRead given s.outcomes taken taken' → EndsReadingOver rel uid gid file s left w taken taken' given
+
+-- these calls are forgotten, one after another
+abbrev pub ForgetsCallsOver : {V : Type 0} → CallRelations V → List ℕ → (v w : V) → Type 0
+ForgetsCallsOver rel [] v w = w ≡ v
+ForgetsCallsOver {V} rel (xid ∷ xids) v w = (mid : V) × (rel.forgets_call xid v mid × ForgetsCallsOver rel xids mid w)
 
 -- A file was read into an output: its calls were made, several at a time, and the bytes of their replies were written in order. At an end
 -- the READs that are still outstanding are forgotten.
-pub record ReadsFile (uid gid : ℕ) (file : List ℕ) (v w : LinkView) (taken taken' : Option (List ℕ)) (given : Result (Unit {0}) ClientEnd) : Type 0 where
-  pub between : List ReadingAt
-  pub last : ReadingAt
-  pub made : LeadsBy uid gid file (starts_at v) between last
+pub record ReadsFileOver {V : Type 0} (rel : CallRelations V) (uid gid : ℕ) (file : List ℕ) (v w : V) (taken taken' : Option (List ℕ)) (given : Result (Unit {0}) ClientEnd) : Type 0 where
+  pub between : List (ReadingOver V)
+  pub last : ReadingOver V
+  pub made : LeadsOver rel uid gid file (starts_at v) between last
   pub left : List OpenRead
-  pub ended : LinkView
-  pub ends : EndsReading uid gid file last left ended taken taken' given
-  pub forgets : ForgetsCalls (xids_of left) ended w
+  pub ended : V
+  pub ends : EndsReadingOver rel uid gid file last left ended taken taken' given
+  pub forgets : ForgetsCallsOver rel (xids_of left) ended w
+
+-- ---- Over a link that one caller has
+
+abbrev pub ReadingAt : Type 0
+ReadingAt = ReadingOver LinkView
+
+abbrev pub ReadStep : (uid gid : ℕ) (file : List ℕ) (s t : ReadingAt) → Type 0
+ReadStep uid gid file s t = ReadStepOver link_relations uid gid file s t
+
+abbrev pub LeadsBy : (uid gid : ℕ) (file : List ℕ) (first : ReadingAt) → List ReadingAt → (last : ReadingAt) → Type 0
+LeadsBy uid gid file first states last = LeadsOver link_relations uid gid file first states last
+
+abbrev pub EndsReading : (uid gid : ℕ) (file : List ℕ) (s : ReadingAt) → List OpenRead → LinkView → (taken taken' : Option (List ℕ)) → Result (Unit {0}) ClientEnd → Type 0
+EndsReading uid gid file s left w taken taken' given = EndsReadingOver link_relations uid gid file s left w taken taken' given
+
+abbrev pub ForgetsCalls : List ℕ → (v w : LinkView) → Type 0
+ForgetsCalls xids v w = ForgetsCallsOver link_relations xids v w
+
+abbrev pub ReadsFile : (uid gid : ℕ) (file : List ℕ) (v w : LinkView) (taken taken' : Option (List ℕ)) → Result (Unit {0}) ClientEnd → Type 0
+ReadsFile uid gid file v w taken taken' given = ReadsFileOver link_relations uid gid file v w taken taken' given
+
+-- ---- Fault counts
 
 -- the fault count of the output rises at OutputFault alone, and that of an input at InputFault alone
 abbrev pub OutputFaults : {A : Type 0} → Result A ClientEnd → ℕ → ℕ → Type 0

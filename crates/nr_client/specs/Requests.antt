@@ -30,11 +30,12 @@ use Rattle.nr_nfs_res.specs.Mount.{mount_ok_codec}
 use Rattle.nr_nfs_res.specs.declared.mount.MountOk.{MountOk}
 use Rattle.nr_reduce.specs.declared.call.Call.{Call}
 use Rattle.nr_reduce.specs.declared.call.Outcome.{Outcome}
+use Rattle.nr_shared.specs.declared.call_end.CallEnd.{CallEnd}
 use Rattle.nr_client.specs.declared.client_end.ClientEnd.{ClientEnd}
 use Rattle.nr_client.specs.declared.client_end.ClientEnd.TheVariants as client
-use Rattle.nr_client.specs.declared.call_end.CallEnd.{CallEnd}
-use Rattle.nr_client.specs.Calls.{Answers, GivesUp}
-use Rattle.nr_client.specs.Ending.{IsCauseIn, SinkCountAt, SourceCountAt}
+use Rattle.nr_client.specs.Calls.{link_relations}
+use Rattle.nr_client.specs.Ending.{SinkCountAt, SourceCountAt}
+use Rattle.nr_client.specs.Relations.{CallRelations}
 use Rattle.nr_client.specs.Results.{Gives, mount_done, nfs_done, result_of_outcome}
 use Rattle.nr_client.specs.Views.{LinkView}
 
@@ -114,13 +115,21 @@ mnt_result outcome = handle_of (mount_done (result_of_outcome (status_union_code
 
 -- A request was made: its call was answered, and its result is what the outcome is read as; or the call has no answer; or memory ran out before
 -- it was made, and nothing changed.
-abbrev pub Asks : {A : Type 0} → (Outcome → Result A ClientEnd) → Call → (v w : LinkView) → Result A ClientEnd → Type 0
-Asks reads call v w result =
-    ((outcome : Outcome) × (Answers v w call outcome × Gives result (reads outcome)))
-    ⊎ (((end : CallEnd) × ((result ≡ Err (client.Link end)) × (GivesUp v w call end × IsCauseIn end w call)))
+abbrev pub AsksOver : {A V : Type 0} → CallRelations V → (Outcome → Result A ClientEnd) → Call → (v w : V) → Result A ClientEnd → Type 0
+AsksOver rel reads call v w result =
+    ((outcome : Outcome) × (rel.answers v w call outcome × Gives result (reads outcome)))
+    ⊎ (((end : CallEnd) × ((result ≡ Err (client.Link end)) × rel.gives_up v w call end))
     ⊎ ((result ≡ Err client.Memory) × (w ≡ v)))
 
--- the fault counts of the source and of the sink rise only if a call has no answer for that
+abbrev pub Asks : {A : Type 0} → (Outcome → Result A ClientEnd) → Call → (v w : LinkView) → Result A ClientEnd → Type 0
+Asks reads call v w result = AsksOver link_relations reads call v w result
+
+-- the fault counts rise only if a call has no answer for that
+abbrev pub CountsFaultsOver : {A V : Type 0} → (rel : CallRelations V) → Result A ClientEnd → (v w : V) → Type 0
+CountsFaultsOver rel (Err (client.Link end)) v w = rel.counts end (rel.faults v) (rel.faults w)
+CountsFaultsOver rel result v w = rel.faults w ≡ rel.faults v
+
+-- the fault counts of the source and of the sink, likewise
 abbrev pub SourceFaults : {A : Type 0} → Result A ClientEnd → ℕ → ℕ → Type 0
 SourceFaults (Err (client.Link end)) before after = SourceCountAt end before after
 SourceFaults result before after = after ≡ before

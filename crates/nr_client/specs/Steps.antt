@@ -18,9 +18,9 @@ use Rattle.nr_requester.specs.Standing.{RequesterRepresents, RequesterRunsOut}
 use Rattle.nr_requester.specs.Fed.{fed_bytes}
 use Rattle.nr_requester.specs.OpenCalls.{found_answer}
 use Rattle.nr_links.specs.Limits.{piece_max, read_max}
+use Rattle.nr_shared.specs.declared.call_end.CallEnd.{CallEnd}
+use Rattle.nr_shared.specs.declared.call_end.CallEnd.TheVariants as calls
 use Rattle.nr_client.specs.Transfers.{LinkBytes, Moves, link_bytes}
-use Rattle.nr_client.specs.declared.call_end.CallEnd.{CallEnd}
-use Rattle.nr_client.specs.declared.call_end.CallEnd.TheVariants as calls
 
 -- A requester stands for these marks, which keep the law of its side and the last grant.
 pub record IsLive (opened : LinkParameters) (link : ℕ) (h : RequesterSide) (run : List Mark) : Type 0 where
@@ -112,7 +112,7 @@ ReadsNone b b' = (b'.left ≡ b.left) × ((b'.given ≡ b.given) × (b'.read ≡
 abbrev pub HasCreditLeft : RequesterSide → Type 0
 HasCreditLeft h = may_submit h.state ≡ true
 
--- a credit isn't left, or it is
+-- no call may be submitted: no credit is left, or the next xid is too far above the least one
 abbrev pub LacksCredit : RequesterSide → Type 0
 LacksCredit h = may_submit h.state ≡ false
 

@@ -22,10 +22,12 @@ use Rattle.nr_reduce.specs.declared.call.Call.{Call}
 use Rattle.nr_reduce.specs.declared.call.Outcome.{Outcome}
 use Rattle.nr_client.specs.declared.client_end.ClientEnd.{ClientEnd}
 use Rattle.nr_client.specs.declared.client_end.ClientEnd.TheVariants as client
-use Rattle.nr_client.specs.Following.{Follows, MakesCalls, Next}
+use Rattle.nr_client.specs.Calls.{link_relations}
+use Rattle.nr_client.specs.Following.{FollowsOver, MakesCallsOver, Next}
 use Rattle.nr_client.specs.Following.Next.{Calls, Returns}
 use Rattle.nr_client.specs.Listing.{no_progress}
 use Rattle.nr_client.specs.Reading.{post_op_attr_len, results_offset}
+use Rattle.nr_client.specs.Relations.{CallRelations}
 use Rattle.nr_client.specs.Requests.{client_call, create_result, nfs_reads}
 use Rattle.nr_client.specs.Views.{LinkView}
 
@@ -139,22 +141,30 @@ IsReadAhead (WriteEnds end) handed = ⊥
 -- How the calls end by which a file is written from an input, of which these bytes were read and these not. They follow from all its bytes and the
 -- replies, and by some first of the replies the bytes were not read too far. Or the first calls were made and answered, and then a read failed. When
 -- each read of the input was made, between which calls, isn't said.
-pub data EndsWriting (uid gid : ℕ) (dir name handed rest : List ℕ) (v w : LinkView) (result : Result (Unit {0}) ClientEnd) : Type 0 where
-  FollowsInput : (follows : Follows (writing uid gid dir name (handed ++ rest)) v w result) → (count : ℕ)
-      → IsReadAhead (file_write (handed ++ rest) (take count follows.outcomes)) handed → EndsWriting uid gid dir name handed rest v w result
-  InputFails : (outcomes : List Outcome) → result ≡ Err client.InputFault → MakesCalls (writing uid gid dir name (handed ++ rest)) outcomes v w
-      → IsReadAhead (file_write (handed ++ rest) outcomes) handed → EndsWriting uid gid dir name handed rest v w result
+pub data EndsWritingOver {V : Type 0} (rel : CallRelations V) (uid gid : ℕ) (dir name handed rest : List ℕ) (v w : V) (result : Result (Unit {0}) ClientEnd) : Type 0 where
+  FollowsInput : (follows : FollowsOver rel (writing uid gid dir name (handed ++ rest)) v w result) → (count : ℕ)
+      → IsReadAhead (file_write (handed ++ rest) (take count follows.outcomes)) handed → EndsWritingOver rel uid gid dir name handed rest v w result
+  InputFails : (outcomes : List Outcome) → result ≡ Err client.InputFault → MakesCallsOver rel (writing uid gid dir name (handed ++ rest)) outcomes v w
+      → IsReadAhead (file_write (handed ++ rest) outcomes) handed → EndsWritingOver rel uid gid dir name handed rest v w result
 
 -- A file was written from an input, which is all the bytes that were read and the rest. If anything was done on the link, what the first WRITE sends
 -- was read, before or after it.
-pub record WritesFile (uid gid : ℕ) (dir name : List ℕ) (v w : LinkView) (left given left' given' : Option (List ℕ)) (result : Result (Unit {0}) ClientEnd) : Type 0 where
+pub record WritesFileOver {V : Type 0} (rel : CallRelations V) (uid gid : ℕ) (dir name : List ℕ) (v w : V) (left given left' given' : Option (List ℕ)) (result : Result (Unit {0}) ClientEnd) : Type 0 where
   pub handed : List ℕ
   pub rest : List ℕ
   pub hands_out : HandsOut left given left' given' handed
   pub is_rest : IfSome left' (λ known. rest ≡ known)
   pub is_read : IsRead result handed rest
   pub begins : (w ≡ v) ⊎ (length (piece_at (handed ++ rest) 0) ≤ length handed)
-  pub calls : EndsWriting uid gid dir name handed rest v w result
+  pub calls : EndsWritingOver rel uid gid dir name handed rest v w result
+
+-- ---- Over a link that one caller has
+
+abbrev pub EndsWriting : (uid gid : ℕ) (dir name handed rest : List ℕ) (v w : LinkView) → Result (Unit {0}) ClientEnd → Type 0
+EndsWriting uid gid dir name handed rest v w result = EndsWritingOver link_relations uid gid dir name handed rest v w result
+
+abbrev pub WritesFile : (uid gid : ℕ) (dir name : List ℕ) (v w : LinkView) (left given left' given' : Option (List ℕ)) → Result (Unit {0}) ClientEnd → Type 0
+WritesFile uid gid dir name v w left given left' given' result = WritesFileOver link_relations uid gid dir name v w left given left' given' result
 
 -- ---- A read of the input that failed
 

@@ -1,9 +1,8 @@
 //! Requests over a link: a call, and what its answer is read as.
 
-ghost use Rattle.std.specs.Prelude.{◌≡◌, ◌≢◌, Some, IfOk, IfErr, OnOk};
+ghost use Rattle.std.specs.Prelude.{◌≡◌, IfOk, IfErr};
 ghost use Rattle.nr_client.specs.Results.{IsOfCall};
-ghost use Rattle.nr_client.specs.Requests.{Asks, SinkFaults, SourceFaults, mnt_call, mnt_result, nfs_reads};
-ghost use Rattle.nr_link.specs.declared.end.End.TheVariants as ends;
+ghost use Rattle.nr_client.specs.Requests.{CountsFaultsOver, AsksOver, mnt_call, mnt_result, nfs_reads};
 ghost use Rattle.nr_reduce.specs.declared.call.Call.{Call};
 ghost use Rattle.nr_rpc.specs.Credential.{CanWriteCred};
 
@@ -25,10 +24,8 @@ pub(crate) fn mount_over<L: Calls>(
     gid: u32,
     export: &MountPath,
 ) -> Result<Handle, ClientEnd>
-    ensures asks { Asks mnt_result (mnt_call uid gid export.now)
-        (L.at link.old) (L.at link.new) result }
-    ensures source_faults { SourceFaults result (L.at link.old).source_faults (L.at link.new).source_faults }
-    ensures sink_faults { SinkFaults result (L.at link.old).sink_faults (L.at link.new).sink_faults }
+    ensures asks { AsksOver L.relations mnt_result (mnt_call uid gid export.now) (L.at link.old) (L.at link.new) result }
+    ensures faults { CountsFaultsOver L.relations result (L.at link.old) (L.at link.new) }
 {
     let outcome = match outcome_of(link, mnt_call(alloc, uid, gid, export)) {
         Ok(outcome) => outcome,
@@ -44,12 +41,9 @@ pub(crate) fn ask_nfs<L: Calls, D: Xdr, F: Xdr>(
     call: Result<Call, Memory>,
 ) -> Result<D, ClientEnd>
     requires { IfOk call (λ c. CanWriteCred c.cred) }
-    ensures asks { (asked : Call) → IfOk call (λ c. c ≡ asked) → Asks (nfs_reads D.codec F.codec) asked
-        (L.at link.old) (L.at link.new) result }
-    ensures memory { OnOk result ((L.at link.new).requester.state.side.ended ≢ Some ends.Memory) }
+    ensures asks { (asked : Call) → IfOk call (λ c. c ≡ asked) → AsksOver L.relations (nfs_reads D.codec F.codec) asked (L.at link.old) (L.at link.new) result }
     ensures of_call { IfErr result IsOfCall }
-    ensures source_faults { SourceFaults result (L.at link.old).source_faults (L.at link.new).source_faults }
-    ensures sink_faults { SinkFaults result (L.at link.old).sink_faults (L.at link.new).sink_faults }
+    ensures faults { CountsFaultsOver L.relations result (L.at link.old) (L.at link.new) }
 {
     let outcome = match outcome_of(link, call) {
         Ok(outcome) => outcome,

@@ -12,11 +12,11 @@ ghost use Rattle.nr_client.specs.Steps.{Fits, GoesOn, GoesTo, HasCreditLeft, Lac
 ghost use Rattle.nr_client.specs.Transfers.{link_bytes};
 ghost use Rattle.nr_client.specs.Views.{link_view};
 
-use crate::call_end::CallEnd;
 use crate::transfer::{transfer, write_due};
 use nr_outside::{Sink, Source};
 use nr_reduce::{Call, Form, Outcome, Refused};
 use nr_requester::{Done, Requester, Take, Ticket};
+use nr_shared::CallEnd;
 
 /// Whether no credit is left, or the next xid is too far above the least one. Then a call is outstanding.
 fn lacks_credit(requester: &Requester) -> bool

@@ -1,7 +1,7 @@
 //! Why a request of a session has no result.
 
-use crate::call_end::CallEnd;
 use nr_nfs_base::{MountStatus, Status};
+use nr_shared::CallEnd;
 
 /// How a server refused a call (RFC 5531 section 9).
 #[derive(Clone, Copy)]

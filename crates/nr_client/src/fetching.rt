@@ -8,7 +8,7 @@ use crate::file_calls::read_call;
 use crate::file_to_read::FileToRead;
 use crate::jobs::{PieceRead, ReadJob};
 use crate::read_data::piece_left;
-use nr_outside::{Sink, Source};
+use nr_links::{LinkSink, LinkSource};
 use nr_reduce::Form;
 use nr_requester::{Done, Ticket};
 use nr_shared::{CallRule, Pass, SharedRequester};
@@ -22,7 +22,7 @@ pub(crate) struct AskedPiece {
 }
 
 /// Submits the READ of a piece. Whether it was submitted.
-fn ask<R: Wait, I: Source, O: Sink, C: CallRule>(
+fn ask<R: Wait, I: LinkSource + Drop, O: LinkSink + Drop, C: CallRule>(
     rt: &R,
     shared: &SharedRequester<I, O, C>,
     file: &FileToRead<'_>,
@@ -55,7 +55,7 @@ fn ask<R: Wait, I: Source, O: Sink, C: CallRule>(
 }
 
 /// Submits the READs of the pieces of a job, up to one that can't be.
-fn ask_all<R: Wait, I: Source, O: Sink, C: CallRule>(
+fn ask_all<R: Wait, I: LinkSource + Drop, O: LinkSink + Drop, C: CallRule>(
     rt: &R,
     shared: &SharedRequester<I, O, C>,
     file: &FileToRead<'_>,
@@ -80,7 +80,7 @@ fn ask_all<R: Wait, I: Source, O: Sink, C: CallRule>(
 }
 
 /// Takes the outcomes of READs, the oldest first, up to one that doesn't come.
-fn take_all<R: Wait, I: Source, O: Sink, C: CallRule>(
+fn take_all<R: Wait, I: LinkSource + Drop, O: LinkSink + Drop, C: CallRule>(
     rt: &R,
     shared: &SharedRequester<I, O, C>,
     _file: &FileToRead<'_>,
@@ -112,7 +112,7 @@ fn take_all<R: Wait, I: Source, O: Sink, C: CallRule>(
 }
 
 /// Forgets all READs that are outstanding.
-fn forget_all<R: Wait, I: Source, O: Sink, C: CallRule>(
+fn forget_all<R: Wait, I: LinkSource + Drop, O: LinkSink + Drop, C: CallRule>(
     rt: &R,
     shared: &SharedRequester<I, O, C>,
     _file: &FileToRead<'_>,
@@ -130,7 +130,7 @@ fn forget_all<R: Wait, I: Source, O: Sink, C: CallRule>(
 }
 
 /// Reads the pieces of a job, whose READs are outstanding at once, up to one that gets no answer.
-pub(crate) fn fetch<R: Wait, I: Source, O: Sink, C: CallRule>(
+pub(crate) fn fetch<R: Wait, I: LinkSource + Drop, O: LinkSink + Drop, C: CallRule>(
     rt: &R,
     shared: &SharedRequester<I, O, C>,
     file: &FileToRead<'_>,

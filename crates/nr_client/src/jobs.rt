@@ -24,8 +24,9 @@ use crate::file_to_read::FileToRead;
 use crate::link::LinkEnds;
 use crate::shared_calls::share;
 use crate::written_pieces::write_piece;
+use nr_links::{LinkSink, LinkSource};
 use nr_nfs_base::TRANSFER_MAX;
-use nr_outside::{Sink, Source};
+use nr_outside::Sink;
 use nr_reduce::Outcome;
 use nr_shared::{Appended, CallRule, Pass, SharedRequester};
 use std::alloc::{AllocError, Global};
@@ -35,7 +36,7 @@ use std::thread::Threads;
 
 /// The most pieces of a job in one round: its READs are outstanding at once, and what is held ahead of the output is at most so many pieces of each
 /// job. With more, their data don't stay in a processor's caches until they are written.
-const PIECES_AHEAD: usize = 2;
+const PIECES_AHEAD: usize = 1;
 
 /// A piece of a file that a job has read: where it begins, and the outcome of its READ.
 #[derive(Drop)]
@@ -46,19 +47,19 @@ pub(crate) struct PieceRead {
 
 /// A job: a pass of the shared requester, where its pieces begin, and those that it has read.
 #[derive(Drop)]
-pub(crate) struct ReadJob<I: Source, O: Sink, C: CallRule> {
+pub(crate) struct ReadJob<I: LinkSource + Drop, O: LinkSink + Drop, C: CallRule> {
     pub(crate) pass: Pass<I, O, C>,
     pub(crate) offsets: Vec<u64>,
     pub(crate) fetched: Vec<PieceRead>,
 }
 
 /// Each job reads its pieces, in a thread of its own if there is one.
-fn fetch_all<R: Threads + Wait + Sync, I: Source + Send, O: Sink + Send, C: CallRule + Send>(
-    rt: &R,
-    shared: &SharedRequester<I, O, C>,
-    file: &FileToRead<'_>,
-    made: &mut [ReadJob<I, O, C>],
-)
+fn fetch_all<
+    R: Threads + Wait + Sync,
+    I: LinkSource + Send + Drop,
+    O: LinkSink + Send + Drop,
+    C: CallRule + Send,
+>(rt: &R, shared: &SharedRequester<I, O, C>, file: &FileToRead<'_>, made: &mut [ReadJob<I, O, C>])
     requires rule { IsRuleOf C.allows file.now.uid file.now.gid file.now.handle.now file.now.size }
     requires threads { 0 < file.now.jobs }
     requires ready { All (IsReady shared.now file.now.uid file.now.gid file.now.handle.now file.now.size) made.old }
@@ -88,7 +89,7 @@ fn offsets_from(alloc: Global, size: u64, from: u64, step: u64) -> Result<Vec<u6
 }
 
 /// A job of one round, with a pass of its own.
-fn make_job<I: Source, O: Sink, C: CallRule>(
+fn make_job<I: LinkSource + Drop, O: LinkSink + Drop, C: CallRule>(
     alloc: Global,
     shared: &SharedRequester<I, O, C>,
     pass: &mut Pass<I, O, C>,
@@ -112,7 +113,7 @@ fn make_job<I: Source, O: Sink, C: CallRule>(
 }
 
 /// The jobs of one round, whose pieces begin at this offset. Pieces go to jobs in turn.
-fn make_jobs<I: Source, O: Sink, C: CallRule>(
+fn make_jobs<I: LinkSource + Drop, O: LinkSink + Drop, C: CallRule>(
     shared: &SharedRequester<I, O, C>,
     pass: &mut Pass<I, O, C>,
     file: &FileToRead<'_>,
@@ -137,7 +138,7 @@ fn make_jobs<I: Source, O: Sink, C: CallRule>(
 }
 
 /// Takes the pass of each job back, in order, and the pieces that it has read.
-fn join_jobs<I: Source, O: Sink, C: CallRule>(
+fn join_jobs<I: LinkSource + Drop, O: LinkSink + Drop, C: CallRule>(
     alloc: Global,
     shared: &SharedRequester<I, O, C>,
     pass: &mut Pass<I, O, C>,
@@ -195,7 +196,12 @@ fn take_next(lists: &mut Vec<Vec<PieceRead>>, at: u64) -> Result<Option<Outcome>
 }
 
 /// The pieces of one round, read by jobs.
-fn fetch_round<R: Threads + Wait + Sync, I: Source + Send, O: Sink + Send, C: CallRule + Send>(
+fn fetch_round<
+    R: Threads + Wait + Sync,
+    I: LinkSource + Send + Drop,
+    O: LinkSink + Send + Drop,
+    C: CallRule + Send,
+>(
     rt: &R,
     shared: &SharedRequester<I, O, C>,
     pass: &mut Pass<I, O, C>,
@@ -218,8 +224,8 @@ fn fetch_round<R: Threads + Wait + Sync, I: Source + Send, O: Sink + Send, C: Ca
 /// Reads the pieces of one round by jobs, and writes them in order of offset.
 fn read_round<
     R: Threads + Wait + Sync,
-    I: Source + Send,
-    O: Sink + Send,
+    I: LinkSource + Send + Drop,
+    O: LinkSink + Send + Drop,
     C: CallRule + Send,
     K: Sink,
 >(
@@ -264,8 +270,8 @@ fn read_round<
 /// Reads all pieces of a file by jobs.
 fn read_rounds<
     R: Threads + Wait + Sync,
-    I: Source + Send,
-    O: Sink + Send,
+    I: LinkSource + Send + Drop,
+    O: LinkSink + Send + Drop,
     C: CallRule + Send,
     K: Sink,
 >(
@@ -299,14 +305,14 @@ pub(crate) fn read_shared<
     N: Appended,
     C: CallRule + Send,
     R: Threads + Wait + Sync,
-    I: Source,
-    O: Sink,
+    I: LinkSource + Drop,
+    O: LinkSink + Drop,
     K: Sink,
 >(rt: &R, link: LinkEnds<I, O>, file: &FileToRead<'_>, out: &mut K) -> (Result<(), ClientEnd>, I, O)
 where
-    I: Drop + Send,
-    O: Drop + Send,
-    requires entry { entries.Initial (record { requester = link.requester; faults = O.faults link.sink; taken = O.taken link.sink }) ≡ N.entry }
+    I: Send,
+    O: Send,
+    requires entry { entries.Initial (record { requester = link.requester; sink = record { link = O.link link.sink; faults = O.faults link.sink; taken = O.taken link.sink }; tries = None }) ≡ N.entry }
     requires has_memory { link.requester.state.side.ended ≢ Some ends.Memory }
     requires fed { fed_bytes link.requester ≤ bytes_before }
     requires within { link.read ≤ read_max }
@@ -335,7 +341,10 @@ where
         }
     };
     let result = read_rounds(rt, &shared, &mut pass, file, out);
-    let (requester, source, sink) = shared.close(rt, pass);
+    let (requester, link, _) = shared.close(rt, pass);
     drop(requester);
-    (result, source, sink)
+    match link {
+        Some((source, sink)) => (result, source, sink),
+        None => unreachable!(),
+    }
 }

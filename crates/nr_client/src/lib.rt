@@ -3,7 +3,6 @@
 
 mod answer;
 mod asking;
-mod call_end;
 mod calling;
 mod client_end;
 mod fetching;
@@ -26,15 +25,18 @@ mod requests;
 mod results;
 mod session;
 mod shared_calls;
+mod shared_link;
 mod transfer;
+mod unnumbered;
 mod walking;
 mod write_file;
 mod written_pieces;
 
-pub use call_end::CallEnd;
 pub use client_end::{ClientEnd, RpcKind};
 pub use link::Link;
 pub use link_calls::Calls;
 pub use names::Names;
+pub use nr_shared::CallEnd;
 pub use path::components;
 pub use session::Session;
+pub use shared_link::SharedLink;

@@ -7,13 +7,14 @@ ghost use Rattle.nr_requester.specs.AfterCalls.{opened_as};
 ghost use Rattle.nr_requester.specs.Fed.{fed_bytes};
 ghost use Rattle.nr_client.specs.LinkParts.{RepresentsNewLink};
 
-use crate::call_end::CallEnd;
 use crate::calling::{call_over, complete, submit_over};
 use crate::link_calls::Calls;
+use crate::unnumbered::{UnnumberedSink, UnnumberedSource};
 use nr_links::PIECE_MAX;
 use nr_outside::{Sink, Source};
 use nr_reduce::{Call, Outcome};
 use nr_requester::{Requester, Ticket};
+use nr_shared::CallEnd;
 use std::alloc::Global;
 use std::marker::Model;
 
@@ -83,10 +84,10 @@ impl<I: Source, O: Sink> Link<I, O> {
         })
     }
 
-    /// What it leaves.
-    pub(crate) fn into_ends(self) -> LinkEnds<I, O>
+    /// What it leaves, for a requester that is shared. Its link isn't dialled again, so the source and the sink need no number.
+    pub(crate) fn into_ends(self) -> LinkEnds<UnnumberedSource<I>, UnnumberedSink<O>>
         ensures requester { result.requester ≡ self.requester }
-        ensures rest { (result.source ≡ self.source) × ((result.sink ≡ self.sink) × (result.read ≡ self.read)) }
+        ensures rest { (result.source.source ≡ self.source) × ((result.sink.sink ≡ self.sink) × (result.read ≡ self.read)) }
         ensures fed { fed_bytes result.requester ≤ read_max }
         ensures within { result.read ≤ read_max }
     {
@@ -100,8 +101,8 @@ impl<I: Source, O: Sink> Link<I, O> {
         drop(buf);
         LinkEnds {
             requester,
-            source,
-            sink,
+            source: UnnumberedSource { source },
+            sink: UnnumberedSink { sink },
             read,
         }
     }
@@ -124,7 +125,12 @@ impl<I: Source, O: Sink> Link<I, O> {
 }
 
 impl<I: Source, O: Sink> Calls for Link<I, O> {
-    ghost use Rattle.nr_client.specs.Views.{link_view};
+    ghost use Rattle.nr_client.specs.Calls.{link_relations};
+    ghost use Rattle.nr_client.specs.Views.{LinkView, link_view};
+
+    ghost View = { LinkView };
+
+    ghost relations = { link_relations };
 
     ghost at = { λ c. link_view (I.left c.source) (I.given c.source) (O.taken c.sink) c.read c.requester (I.faults c.source) (O.faults c.sink) };
 
@@ -165,7 +171,7 @@ impl<I: Source, O: Sink> Calls for Link<I, O> {
         self.requester.forget(ticket);
     }
 
-    fn has_credit(&self) -> bool {
+    fn has_credit(&mut self) -> bool {
         self.requester.may_submit()
     }
 }

@@ -2,9 +2,9 @@
 
 ghost use Rattle.std.specs.Prelude.{◌≡◌, ◌≤◌, ◌++◌, map, length, IfErr, OnOk};
 ghost use Rattle.nr_nfs_res.specs.declared.readdir.Entry.{Entry};
-ghost use Rattle.nr_client.specs.Following.{Follows};
+ghost use Rattle.nr_client.specs.Following.{FollowsOver};
 ghost use Rattle.nr_client.specs.Listing.{entries_max, eof_offset, last_cookie, list_next, listed_after, listed_with, readdir_call};
-ghost use Rattle.nr_client.specs.Requests.{Asks, SinkFaults, SourceFaults};
+ghost use Rattle.nr_client.specs.Requests.{CountsFaultsOver, AsksOver};
 ghost use Rattle.nr_client.specs.Results.{Gives, KeepsCounts};
 ghost use Rattle.nr_client.specs.private.Becomes.{becomes};
 
@@ -112,10 +112,9 @@ fn list_more<L: Calls>(
     listed: &mut Listed,
 ) -> Result<(), ClientEnd>
     requires { length listed.old.names ≤ entries_max }
-    ensures asks { Asks (listed_after listed.old) (readdir_call uid gid dir.now listed.old.cookie listed.old.verifier)
+    ensures asks { AsksOver L.relations (listed_after listed.old) (readdir_call uid gid dir.now listed.old.cookie listed.old.verifier)
         (L.at link.old) (L.at link.new) (becomes listed.new result) }
-    ensures source_faults { SourceFaults result (L.at link.old).source_faults (L.at link.new).source_faults }
-    ensures sink_faults { SinkFaults result (L.at link.old).sink_faults (L.at link.new).sink_faults }
+    ensures faults { CountsFaultsOver L.relations result (L.at link.old) (L.at link.new) }
 {
     let call = readdir_call(alloc, uid, gid, dir, listed.cookie, listed.verifier);
     match outcome_of(link, call) {
@@ -132,10 +131,8 @@ pub(crate) fn list_over<L: Calls>(
     gid: u32,
     dir: &Handle,
 ) -> Result<Names, ClientEnd>
-    ensures follows { Follows (list_next uid gid dir.now)
-        (L.at link.old) (L.at link.new) result }
-    ensures source_faults { SourceFaults result (L.at link.old).source_faults (L.at link.new).source_faults }
-    ensures sink_faults { SinkFaults result (L.at link.old).sink_faults (L.at link.new).sink_faults }
+    ensures follows { FollowsOver L.relations (list_next uid gid dir.now) (L.at link.old) (L.at link.new) result }
+    ensures faults { CountsFaultsOver L.relations result (L.at link.old) (L.at link.new) }
 {
     let mut listed = Listed {
         names: Names::new(alloc),

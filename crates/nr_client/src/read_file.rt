@@ -1,9 +1,9 @@
 //! A file is read into an output.
 
 ghost use Rattle.std.specs.Prelude.{◌≡◌, ◌<◌, ◌≤◌, ◌+◌, ℕ, List, [], Ok, OnOk, IfErr};
-ghost use Rattle.nr_requester.specs.OpenCalls.{KeepsTickets};
-ghost use Rattle.nr_client.specs.Reading.{OutputFaults, ReadsFile, piece_left};
-ghost use Rattle.nr_client.specs.Requests.{SinkFaults, SourceFaults};
+ghost use Rattle.nr_client.specs.Reading.{OutputFaults, ReadsFileOver, piece_left};
+ghost use Rattle.nr_client.specs.Relations.{KeepsTicketsOver};
+ghost use Rattle.nr_client.specs.Requests.{CountsFaultsOver};
 ghost use Rattle.nr_client.specs.private.OpenReads.{AreOpen, EndsSo, IsInPiece, ReadsAhead, ReadsOn};
 
 use crate::answer::outcome_of;
@@ -33,14 +33,13 @@ fn read_on<L: Calls, K: Sink>(
     requires piece { IsInPiece file.now.size at.old end }
     ensures piece { OnOk result (IsInPiece file.now.size at.new end) }
     ensures more { OnOk result (at.old < at.new) }
-    ensures ok { OnOk result ((from : ℕ) (xids : List ℕ) → ReadsOn file.now.uid file.now.gid file.now.handle.now file.now.size at.old from xids at.new from xids
+    ensures ok { OnOk result ((from : ℕ) (xids : List ℕ) → ReadsOn L.relations file.now.uid file.now.gid file.now.handle.now file.now.size at.old from xids at.new from xids
         (L.at link.old) (L.at link.new) (K.taken out.old) (K.taken out.new)) }
-    ensures err { IfErr result (λ why. (from : ℕ) (xids : List ℕ) → EndsSo file.now.uid file.now.gid file.now.handle.now file.now.size at.old from xids xids
+    ensures err { IfErr result (λ why. (from : ℕ) (xids : List ℕ) → EndsSo L.relations file.now.uid file.now.gid file.now.handle.now file.now.size at.old from xids xids
         (L.at link.old) (L.at link.new) (K.taken out.old) (K.taken out.new) (Err why)) }
-    ensures tickets { KeepsTickets (L.at link.old).requester.state (L.at link.new).requester.state }
+    ensures tickets { KeepsTicketsOver L.relations (L.at link.old) (L.at link.new) }
     ensures out_faults { OutputFaults result (K.faults out.old) (K.faults out.new) }
-    ensures source_faults { SourceFaults result (L.at link.old).source_faults (L.at link.new).source_faults }
-    ensures sink_faults { SinkFaults result (L.at link.old).sink_faults (L.at link.new).sink_faults }
+    ensures faults { CountsFaultsOver L.relations result (L.at link.old) (L.at link.new) }
 {
     let count = piece_left(file.size, *at);
     let outcome = match outcome_of(
@@ -69,14 +68,13 @@ fn read_rest<L: Calls, K: Sink>(
     requires within { end ≤ file.now.size }
     requires piece { IsInPiece file.now.size at.old end }
     ensures end { OnOk result (at.new ≡ end) }
-    ensures ok { OnOk result ((from : ℕ) (xids : List ℕ) → ReadsOn file.now.uid file.now.gid file.now.handle.now file.now.size at.old from xids at.new from xids
+    ensures ok { OnOk result ((from : ℕ) (xids : List ℕ) → ReadsOn L.relations file.now.uid file.now.gid file.now.handle.now file.now.size at.old from xids at.new from xids
         (L.at link.old) (L.at link.new) (K.taken out.old) (K.taken out.new)) }
-    ensures err { IfErr result (λ why. (from : ℕ) (xids : List ℕ) → EndsSo file.now.uid file.now.gid file.now.handle.now file.now.size at.old from xids xids
+    ensures err { IfErr result (λ why. (from : ℕ) (xids : List ℕ) → EndsSo L.relations file.now.uid file.now.gid file.now.handle.now file.now.size at.old from xids xids
         (L.at link.old) (L.at link.new) (K.taken out.old) (K.taken out.new) (Err why)) }
-    ensures tickets { KeepsTickets (L.at link.old).requester.state (L.at link.new).requester.state }
+    ensures tickets { KeepsTicketsOver L.relations (L.at link.old) (L.at link.new) }
     ensures out_faults { OutputFaults result (K.faults out.old) (K.faults out.new) }
-    ensures source_faults { SourceFaults result (L.at link.old).source_faults (L.at link.new).source_faults }
-    ensures sink_faults { SinkFaults result (L.at link.old).sink_faults (L.at link.new).sink_faults }
+    ensures faults { CountsFaultsOver L.relations result (L.at link.old) (L.at link.new) }
 {
     'rest: while *at < end {
         match read_on(link, file, end, at, out) {
@@ -97,17 +95,16 @@ fn read_piece<L: Calls, K: Sink>(
     out: &mut K,
 ) -> Result<(), ClientEnd>
     requires below { at.old < file.now.size }
-    requires ahead { ReadsAhead (L.at link.old).requester file.now.size at.old next.old tickets.old.items }
-    ensures open { AreOpen (L.at link.new).requester.state tickets.new.items }
+    requires ahead { ReadsAhead L.relations (L.at link.old) file.now.size at.old next.old tickets.old.items }
+    ensures open { AreOpen L.relations (L.at link.new) tickets.new.items }
     ensures more { OnOk result (at.old < at.new) }
-    ensures ahead { OnOk result (ReadsAhead (L.at link.new).requester file.now.size at.new next.new tickets.new.items) }
-    ensures ok { OnOk result (ReadsOn file.now.uid file.now.gid file.now.handle.now file.now.size at.old at.old tickets.old.items at.new at.new tickets.new.items
+    ensures ahead { OnOk result (ReadsAhead L.relations (L.at link.new) file.now.size at.new next.new tickets.new.items) }
+    ensures ok { OnOk result (ReadsOn L.relations file.now.uid file.now.gid file.now.handle.now file.now.size at.old at.old tickets.old.items at.new at.new tickets.new.items
         (L.at link.old) (L.at link.new) (K.taken out.old) (K.taken out.new)) }
-    ensures err { IfErr result (λ why. EndsSo file.now.uid file.now.gid file.now.handle.now file.now.size at.old at.old tickets.old.items tickets.new.items
+    ensures err { IfErr result (λ why. EndsSo L.relations file.now.uid file.now.gid file.now.handle.now file.now.size at.old at.old tickets.old.items tickets.new.items
         (L.at link.old) (L.at link.new) (K.taken out.old) (K.taken out.new) (Err why)) }
     ensures out_faults { OutputFaults result (K.faults out.old) (K.faults out.new) }
-    ensures source_faults { SourceFaults result (L.at link.old).source_faults (L.at link.new).source_faults }
-    ensures sink_faults { SinkFaults result (L.at link.old).sink_faults (L.at link.new).sink_faults }
+    ensures faults { CountsFaultsOver L.relations result (L.at link.old) (L.at link.new) }
 {
     let end = *at + piece_left(file.size, *at) as u64;
     match fill(link, file, *at, next, tickets) {
@@ -132,12 +129,11 @@ fn read_pieces<L: Calls, K: Sink>(
     out: &mut K,
 ) -> Result<(), ClientEnd>
     requires { tickets.old.items ≡ [] }
-    ensures open { AreOpen (L.at link.new).requester.state tickets.new.items }
-    ensures ends { EndsSo file.now.uid file.now.gid file.now.handle.now file.now.size 0 0 [] tickets.new.items
+    ensures open { AreOpen L.relations (L.at link.new) tickets.new.items }
+    ensures ends { EndsSo L.relations file.now.uid file.now.gid file.now.handle.now file.now.size 0 0 [] tickets.new.items
         (L.at link.old) (L.at link.new) (K.taken out.old) (K.taken out.new) result }
     ensures out_faults { OutputFaults result (K.faults out.old) (K.faults out.new) }
-    ensures source_faults { SourceFaults result (L.at link.old).source_faults (L.at link.new).source_faults }
-    ensures sink_faults { SinkFaults result (L.at link.old).sink_faults (L.at link.new).sink_faults }
+    ensures faults { CountsFaultsOver L.relations result (L.at link.old) (L.at link.new) }
 {
     let mut at = 0;
     let mut next = 0;
@@ -159,11 +155,9 @@ pub(crate) fn read_file_over<L: Calls, K: Sink>(
     file: &Handle,
     out: &mut K,
 ) -> Result<(), ClientEnd>
-    ensures reads { ReadsFile uid gid file.now
-        (L.at link.old) (L.at link.new) (K.taken out.old) (K.taken out.new) result }
+    ensures reads { ReadsFileOver L.relations uid gid file.now (L.at link.old) (L.at link.new) (K.taken out.old) (K.taken out.new) result }
     ensures out_faults { OutputFaults result (K.faults out.old) (K.faults out.new) }
-    ensures source_faults { SourceFaults result (L.at link.old).source_faults (L.at link.new).source_faults }
-    ensures sink_faults { SinkFaults result (L.at link.old).sink_faults (L.at link.new).sink_faults }
+    ensures faults { CountsFaultsOver L.relations result (L.at link.old) (L.at link.new) }
 {
     let call = getattr_call(alloc, uid, gid, file);
     let attributes = match ask_nfs::<L, Attributes, ()>(alloc, link, call) {

@@ -6,15 +6,17 @@ ghost use Rattle.nr_nfs_base.specs.declared.attributes.Attributes.{Attributes};
 ghost use Rattle.nr_links.specs.Asked.{Asks as AsksFor};
 ghost use Rattle.nr_links.specs.Links.{CountsLost, EndsLink, HasOpenLink, IsNewLink, IsTold, MakesLink, ended_link};
 ghost use Rattle.nr_link.specs.Agreement.{terms_with};
-ghost use Rattle.nr_requester.specs.AfterCalls.{opened_as};
-ghost use Rattle.nr_client.specs.Following.{Follows};
+ghost use Rattle.nr_requester.specs.AfterCalls.{numbered_terms, opened_as};
+ghost use Rattle.nr_shared.specs.Standing.{tries_max};
+ghost use Rattle.nr_client.specs.Following.{FollowsOver};
 ghost use Rattle.nr_client.specs.Jobs.{ReadsFileByJobs, jobs_max, link_at};
 ghost use Rattle.nr_client.specs.Listing.{list_next};
 ghost use Rattle.nr_client.specs.Dialing.{OpenFails, dialer_at, session_credits};
-ghost use Rattle.nr_client.specs.Requests.{Asks, SinkFaults, SourceFaults, create_result, getattr_call, getattr_result, lookup_call, lookup_result, mkdir_call, mnt_call, mnt_result, readlink_call, readlink_result, remove_call, remove_result, symlink_call};
-ghost use Rattle.nr_client.specs.Reading.{InputFaults, OutputFaults, ReadsFile};
+ghost use Rattle.nr_client.specs.Requests.{CountsFaultsOver, AsksOver, create_result, getattr_call, getattr_result, lookup_call, lookup_result, mkdir_call, mnt_call, mnt_result, readlink_call, readlink_result, remove_call, remove_result, symlink_call};
+ghost use Rattle.nr_client.specs.Reading.{InputFaults, OutputFaults, ReadsFileOver};
 ghost use Rattle.nr_client.specs.LinkParts.{RepresentsNewLink};
-ghost use Rattle.nr_client.specs.Writing.{StopsAtFault, WritesFile};
+ghost use Rattle.nr_client.specs.Numbered.{ClosesNumbered, NumberedFails, OpensNumbered};
+ghost use Rattle.nr_client.specs.Writing.{StopsAtFault, WritesFileOver};
 ghost use Rattle.nr_client.specs.Walking.{parent_next, walk_next};
 
 use crate::asking::{ask_nfs, mount_over};
@@ -30,6 +32,8 @@ use crate::read_file::read_file_over;
 use crate::requests::{
     getattr_call, lookup_call, mkdir_call, readlink_call, remove_call, symlink_call,
 };
+use crate::shared_link::SharedLink;
+use crate::unnumbered::{UnnumberedSink, UnnumberedSource};
 use crate::walking::{walk_over, walk_to_parent_over};
 use crate::write_file::write_file_over;
 use nr_links::{Dialer, LinkNumber, LinkSink, LinkSource, NumberedSink, NumberedSource};
@@ -130,25 +134,80 @@ impl<P: LinkSource, Q: LinkSink, N: LinkNumber> Session<
     }
 }
 
+impl<
+    'a,
+    R: Wait,
+    I: LinkSource + Drop,
+    O: LinkSink + Drop,
+    D: Dialer<Source = I, Sink = O>,
+> Session<SharedLink<'a, R, I, O, D>> {
+    /// A session of a user over a link to this address, of a client with this number, which isn't 0. If the link is lost, it is hung up and the next one
+    /// is dialled to the same address, at most `tries` times in all, and the calls that weren't answered are sent again. The units of its Sends, and
+    /// whether it takes Sends with Invalidate, are those of `open`.
+    ///
+    /// # Errors
+    ///
+    /// `DialFault` if the dialer failed, `Memory` if memory ran out: then a link that was made is hung up. The dialer comes back.
+    pub fn open_numbered(
+        rt: &'a R,
+        alloc: Global,
+        dialer: D,
+        addr: &str,
+        uid: u32,
+        gid: u32,
+        client: u64,
+        tries: u32,
+        units: u8,
+        invalidates: bool,
+    ) -> Result<Session<SharedLink<'a, R, I, O, D>>, (ClientEnd, D)>
+    where
+        D: Drop,
+        requires client { 0 < client }
+        requires tries { tries ≤ tries_max }
+        ensures opened { IfOk result (λ s. OpensNumbered I.link I.left I.given I.faults D.asked D.ended D.faults tries (numbered_terms client units invalidates) addr.now dialer s.link.pass) }
+        ensures user { IfOk result (λ s. (s.uid ≡ uid) × (s.gid ≡ gid)) }
+        ensures err { IfErr result (λ back. NumberedFails I.link I.left I.given I.faults O.link O.taken O.faults D.asked D.ended D.faults tries (numbered_terms client units invalidates) addr.now dialer back.0 back.1) }
+    {
+        match SharedLink::open(rt, alloc, dialer, addr, client, tries, units, invalidates) {
+            Ok(link) => Ok(Session {
+                alloc,
+                link,
+                uid,
+                gid,
+            }),
+            Err(back) => Err(back),
+        }
+    }
+
+    /// Ends the session: the link at hand is hung up, if there is one. There is none if the last dial failed. The dialer comes back.
+    pub fn close(self) -> D
+        ensures { ClosesNumbered I.link I.left I.given I.faults O.link O.taken O.faults D.asked D.ended D.lost D.faults self.entry.link.pass result }
+    {
+        let Session {
+            alloc: _alloc,
+            link,
+            uid: _uid,
+            gid: _gid,
+        } = self;
+        link.close()
+    }
+}
+
 impl<L: Calls> Session<L> {
     /// The file handle of the root of an export (MNT, RFC 1813 section 5.2.1).
     pub fn mount(&mut self, export: &MountPath) -> Result<Handle, ClientEnd>
-        ensures asks { Asks mnt_result (mnt_call self.old.uid self.old.gid export.now)
-            (L.at self.old.link) (L.at self.new.link) result }
+        ensures asks { AsksOver L.relations mnt_result (mnt_call self.old.uid self.old.gid export.now) (L.at self.old.link) (L.at self.new.link) result }
         ensures user { (self.new.uid ≡ self.old.uid) × (self.new.gid ≡ self.old.gid) }
-        ensures source_faults { SourceFaults result (L.at self.old.link).source_faults (L.at self.new.link).source_faults }
-        ensures sink_faults { SinkFaults result (L.at self.old.link).sink_faults (L.at self.new.link).sink_faults }
+        ensures faults { CountsFaultsOver L.relations result (L.at self.old.link) (L.at self.new.link) }
     {
         mount_over(self.alloc, &mut self.link, self.uid, self.gid, export)
     }
 
     /// The attributes of a file (GETATTR, RFC 1813 section 3.3.1).
     pub fn stat(&mut self, file: &Handle) -> Result<Attributes, ClientEnd>
-        ensures asks { Asks getattr_result (getattr_call self.old.uid self.old.gid file.now)
-            (L.at self.old.link) (L.at self.new.link) result }
+        ensures asks { AsksOver L.relations getattr_result (getattr_call self.old.uid self.old.gid file.now) (L.at self.old.link) (L.at self.new.link) result }
         ensures user { (self.new.uid ≡ self.old.uid) × (self.new.gid ≡ self.old.gid) }
-        ensures source_faults { SourceFaults result (L.at self.old.link).source_faults (L.at self.new.link).source_faults }
-        ensures sink_faults { SinkFaults result (L.at self.old.link).sink_faults (L.at self.new.link).sink_faults }
+        ensures faults { CountsFaultsOver L.relations result (L.at self.old.link) (L.at self.new.link) }
     {
         ask_nfs::<L, Attributes, ()>(
             self.alloc,
@@ -159,11 +218,10 @@ impl<L: Calls> Session<L> {
 
     /// The object of a name in a directory (LOOKUP, RFC 1813 section 3.3.3).
     pub fn look_up(&mut self, dir: &Handle, name: &Name) -> Result<LookupOk, ClientEnd>
-        ensures asks { Asks lookup_result (lookup_call self.old.uid self.old.gid dir.now name.now)
+        ensures asks { AsksOver L.relations lookup_result (lookup_call self.old.uid self.old.gid dir.now name.now)
             (L.at self.old.link) (L.at self.new.link) result }
         ensures user { (self.new.uid ≡ self.old.uid) × (self.new.gid ≡ self.old.gid) }
-        ensures source_faults { SourceFaults result (L.at self.old.link).source_faults (L.at self.new.link).source_faults }
-        ensures sink_faults { SinkFaults result (L.at self.old.link).sink_faults (L.at self.new.link).sink_faults }
+        ensures faults { CountsFaultsOver L.relations result (L.at self.old.link) (L.at self.new.link) }
     {
         ask_nfs::<L, LookupOk, Option<Attributes>>(
             self.alloc,
@@ -174,11 +232,10 @@ impl<L: Calls> Session<L> {
 
     /// The path in a symbolic link (READLINK, RFC 1813 section 3.3.5).
     pub fn read_link(&mut self, file: &Handle) -> Result<ReadlinkOk, ClientEnd>
-        ensures asks { Asks readlink_result (readlink_call self.old.uid self.old.gid file.now)
+        ensures asks { AsksOver L.relations readlink_result (readlink_call self.old.uid self.old.gid file.now)
             (L.at self.old.link) (L.at self.new.link) result }
         ensures user { (self.new.uid ≡ self.old.uid) × (self.new.gid ≡ self.old.gid) }
-        ensures source_faults { SourceFaults result (L.at self.old.link).source_faults (L.at self.new.link).source_faults }
-        ensures sink_faults { SinkFaults result (L.at self.old.link).sink_faults (L.at self.new.link).sink_faults }
+        ensures faults { CountsFaultsOver L.relations result (L.at self.old.link) (L.at self.new.link) }
     {
         ask_nfs::<L, ReadlinkOk, Option<Attributes>>(
             self.alloc,
@@ -189,11 +246,10 @@ impl<L: Calls> Session<L> {
 
     /// Removes a name from a directory (REMOVE, RFC 1813 section 3.3.12). The result is about the directory.
     pub fn remove(&mut self, dir: &Handle, name: &Name) -> Result<WccData, ClientEnd>
-        ensures asks { Asks remove_result (remove_call self.old.uid self.old.gid dir.now name.now)
+        ensures asks { AsksOver L.relations remove_result (remove_call self.old.uid self.old.gid dir.now name.now)
             (L.at self.old.link) (L.at self.new.link) result }
         ensures user { (self.new.uid ≡ self.old.uid) × (self.new.gid ≡ self.old.gid) }
-        ensures source_faults { SourceFaults result (L.at self.old.link).source_faults (L.at self.new.link).source_faults }
-        ensures sink_faults { SinkFaults result (L.at self.old.link).sink_faults (L.at self.new.link).sink_faults }
+        ensures faults { CountsFaultsOver L.relations result (L.at self.old.link) (L.at self.new.link) }
     {
         ask_nfs::<L, WccData, WccData>(
             self.alloc,
@@ -204,11 +260,10 @@ impl<L: Calls> Session<L> {
 
     /// Makes a directory of this name in a directory, with mode 0755 (MKDIR, RFC 1813 section 3.3.9).
     pub fn mkdir(&mut self, dir: &Handle, name: &Name) -> Result<CreateOk, ClientEnd>
-        ensures asks { Asks create_result (mkdir_call self.old.uid self.old.gid dir.now name.now)
+        ensures asks { AsksOver L.relations create_result (mkdir_call self.old.uid self.old.gid dir.now name.now)
             (L.at self.old.link) (L.at self.new.link) result }
         ensures user { (self.new.uid ≡ self.old.uid) × (self.new.gid ≡ self.old.gid) }
-        ensures source_faults { SourceFaults result (L.at self.old.link).source_faults (L.at self.new.link).source_faults }
-        ensures sink_faults { SinkFaults result (L.at self.old.link).sink_faults (L.at self.new.link).sink_faults }
+        ensures faults { CountsFaultsOver L.relations result (L.at self.old.link) (L.at self.new.link) }
     {
         ask_nfs::<L, CreateOk, WccData>(
             self.alloc,
@@ -219,11 +274,10 @@ impl<L: Calls> Session<L> {
 
     /// Makes a symbolic link of this name in a directory, which holds this path (SYMLINK, RFC 1813 section 3.3.10). No attribute is given.
     pub fn link(&mut self, dir: &Handle, name: &Name, path: &Path) -> Result<CreateOk, ClientEnd>
-        ensures asks { Asks create_result (symlink_call self.old.uid self.old.gid dir.now name.now path.now)
+        ensures asks { AsksOver L.relations create_result (symlink_call self.old.uid self.old.gid dir.now name.now path.now)
             (L.at self.old.link) (L.at self.new.link) result }
         ensures user { (self.new.uid ≡ self.old.uid) × (self.new.gid ≡ self.old.gid) }
-        ensures source_faults { SourceFaults result (L.at self.old.link).source_faults (L.at self.new.link).source_faults }
-        ensures sink_faults { SinkFaults result (L.at self.old.link).sink_faults (L.at self.new.link).sink_faults }
+        ensures faults { CountsFaultsOver L.relations result (L.at self.old.link) (L.at self.new.link) }
     {
         ask_nfs::<L, CreateOk, WccData>(
             self.alloc,
@@ -235,11 +289,9 @@ impl<L: Calls> Session<L> {
     /// The file handle of a path from a directory: a LOOKUP for each component, one after another (RFC 1813 section 3.3.3). If the path is
     /// bad (`BadPath`), no call is made.
     pub fn walk(&mut self, root: &Handle, path: &[u8]) -> Result<Handle, ClientEnd>
-        ensures follows { Follows (walk_next self.old.uid self.old.gid root.now path.now)
-            (L.at self.old.link) (L.at self.new.link) result }
+        ensures follows { FollowsOver L.relations (walk_next self.old.uid self.old.gid root.now path.now) (L.at self.old.link) (L.at self.new.link) result }
         ensures user { (self.new.uid ≡ self.old.uid) × (self.new.gid ≡ self.old.gid) }
-        ensures source_faults { SourceFaults result (L.at self.old.link).source_faults (L.at self.new.link).source_faults }
-        ensures sink_faults { SinkFaults result (L.at self.old.link).sink_faults (L.at self.new.link).sink_faults }
+        ensures faults { CountsFaultsOver L.relations result (L.at self.old.link) (L.at self.new.link) }
     {
         walk_over(self.alloc, &mut self.link, self.uid, self.gid, root, path)
     }
@@ -251,11 +303,9 @@ impl<L: Calls> Session<L> {
         root: &Handle,
         path: &[u8],
     ) -> Result<(Handle, Name), ClientEnd>
-        ensures follows { Follows (parent_next self.old.uid self.old.gid root.now path.now)
-            (L.at self.old.link) (L.at self.new.link) result }
+        ensures follows { FollowsOver L.relations (parent_next self.old.uid self.old.gid root.now path.now) (L.at self.old.link) (L.at self.new.link) result }
         ensures user { (self.new.uid ≡ self.old.uid) × (self.new.gid ≡ self.old.gid) }
-        ensures source_faults { SourceFaults result (L.at self.old.link).source_faults (L.at self.new.link).source_faults }
-        ensures sink_faults { SinkFaults result (L.at self.old.link).sink_faults (L.at self.new.link).sink_faults }
+        ensures faults { CountsFaultsOver L.relations result (L.at self.old.link) (L.at self.new.link) }
     {
         walk_to_parent_over(self.alloc, &mut self.link, self.uid, self.gid, root, path)
     }
@@ -263,11 +313,9 @@ impl<L: Calls> Session<L> {
     /// The names of a directory in the server's order: READDIR up to its end (RFC 1813 section 3.3.16). `Budget` if there are more than
     /// 1048576; `BadReply` with reason 25 if a reply has no entry and isn't the last.
     pub fn list(&mut self, dir: &Handle) -> Result<Names, ClientEnd>
-        ensures follows { Follows (list_next self.old.uid self.old.gid dir.now)
-            (L.at self.old.link) (L.at self.new.link) result }
+        ensures follows { FollowsOver L.relations (list_next self.old.uid self.old.gid dir.now) (L.at self.old.link) (L.at self.new.link) result }
         ensures user { (self.new.uid ≡ self.old.uid) × (self.new.gid ≡ self.old.gid) }
-        ensures source_faults { SourceFaults result (L.at self.old.link).source_faults (L.at self.new.link).source_faults }
-        ensures sink_faults { SinkFaults result (L.at self.old.link).sink_faults (L.at self.new.link).sink_faults }
+        ensures faults { CountsFaultsOver L.relations result (L.at self.old.link) (L.at self.new.link) }
     {
         list_over(self.alloc, &mut self.link, self.uid, self.gid, dir)
     }
@@ -276,12 +324,11 @@ impl<L: Calls> Session<L> {
     /// and 3.3.6). Two READs are outstanding, if the grant is 2 or more. `OutputFault` if the output failed, after it took only some of
     /// the bytes that came.
     pub fn read_file<K: Sink>(&mut self, file: &Handle, out: &mut K) -> Result<(), ClientEnd>
-        ensures reads { ReadsFile self.old.uid self.old.gid file.now
+        ensures reads { ReadsFileOver L.relations self.old.uid self.old.gid file.now
             (L.at self.old.link) (L.at self.new.link) (K.taken out.old) (K.taken out.new) result }
         ensures out_faults { OutputFaults result (K.faults out.old) (K.faults out.new) }
         ensures user { (self.new.uid ≡ self.old.uid) × (self.new.gid ≡ self.old.gid) }
-        ensures source_faults { SourceFaults result (L.at self.old.link).source_faults (L.at self.new.link).source_faults }
-        ensures sink_faults { SinkFaults result (L.at self.old.link).sink_faults (L.at self.new.link).sink_faults }
+        ensures faults { CountsFaultsOver L.relations result (L.at self.old.link) (L.at self.new.link) }
     {
         read_file_over(self.alloc, &mut self.link, self.uid, self.gid, file, out)
     }
@@ -296,14 +343,13 @@ impl<L: Calls> Session<L> {
         name: &Name,
         input: &mut N,
     ) -> Result<(), ClientEnd>
-        ensures writes { WritesFile self.old.uid self.old.gid dir.now name.now
+        ensures writes { WritesFileOver L.relations self.old.uid self.old.gid dir.now name.now
             (L.at self.old.link) (L.at self.new.link) (N.left input.old) (N.given input.old) (N.left input.new) (N.given input.new) result }
         ensures input_faults { InputFaults result (N.faults input.old) (N.faults input.new) }
         // Once a read of the input failed, nothing more is read of it.
         ensures input_stops { StopsAtFault N.faults N.left N.given result input.old input.new }
         ensures user { (self.new.uid ≡ self.old.uid) × (self.new.gid ≡ self.old.gid) }
-        ensures source_faults { SourceFaults result (L.at self.old.link).source_faults (L.at self.new.link).source_faults }
-        ensures sink_faults { SinkFaults result (L.at self.old.link).sink_faults (L.at self.new.link).sink_faults }
+        ensures faults { CountsFaultsOver L.relations result (L.at self.old.link) (L.at self.new.link) }
     {
         write_file_over(
             self.alloc,
@@ -319,7 +365,7 @@ impl<L: Calls> Session<L> {
 
 impl<I: Source, O: Sink> Session<Link<I, O>> {
     /// As `read_file`, by several jobs, 1 to 16, each in a thread of its own if there is one. The session ends: its source and its sink come back.
-    /// At most 2 pieces of each job, of 1048576 bytes, are held ahead of what was written.
+    /// At most one piece of each job, of 1048576 bytes, is held ahead of what was written.
     pub fn read_file_by_jobs<R: Threads + Wait + Sync, K: Sink>(
         self,
         rt: &R,
@@ -359,6 +405,16 @@ impl<I: Source, O: Sink> Session<Link<I, O>> {
             size,
             jobs,
         };
-        read_shared::<Brand, Brand, R, I, O, K>(rt, link, &file, out)
+        let (result, source, sink) = read_shared::<
+            Brand,
+            Brand,
+            R,
+            UnnumberedSource<I>,
+            UnnumberedSink<O>,
+            K,
+        >(rt, link, &file, out);
+        let UnnumberedSource { source } = source;
+        let UnnumberedSink { sink } = sink;
+        (result, source, sink)
     }
 }

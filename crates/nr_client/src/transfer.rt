@@ -12,16 +12,16 @@ ghost use Rattle.nr_requester.specs.MaySubmit.{may_submit};
 ghost use Rattle.nr_requester.specs.OpenCalls.{KeepsTickets, found_answer};
 ghost use Rattle.nr_requester.specs.RequesterState.{queue_of};
 ghost use Rattle.nr_requester.specs.Standing.{StandsOn};
-ghost use Rattle.nr_client.specs.declared.call_end.CallEnd.TheVariants as calls;
+ghost use Rattle.nr_shared.specs.declared.call_end.CallEnd.TheVariants as calls;
 ghost use Rattle.nr_client.specs.Ending.{LinkCause, SinkCount, SourceCount};
 ghost use Rattle.nr_client.specs.Steps.{AnswersNone, FeedsOut, Fits, GoesOn, GoesTo, IsDrained, Reads, ReadsTo, Writes, WritesTo};
 ghost use Rattle.nr_client.specs.Transfers.{link_bytes};
 
-use crate::call_end::CallEnd;
 use nr_link::End;
 use nr_links::{PIECE_MAX, READ_MAX};
 use nr_outside::{Failed, Sink, Source};
 use nr_requester::Requester;
+use nr_shared::CallEnd;
 
 /// One read, of at most `room` bytes, into the front of the buffer.
 #[tactic(auto, using(std::proofs::lemmas::Grind::common_steps))]

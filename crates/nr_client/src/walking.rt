@@ -1,7 +1,7 @@
 //! Requests that go along a path.
 
-ghost use Rattle.nr_client.specs.Following.{Follows};
-ghost use Rattle.nr_client.specs.Requests.{Asks, SinkFaults, SourceFaults, lookup_call};
+ghost use Rattle.nr_client.specs.Following.{FollowsOver};
+ghost use Rattle.nr_client.specs.Requests.{CountsFaultsOver, AsksOver, lookup_call};
 ghost use Rattle.nr_client.specs.Walking.{object_result, parent_along, parent_next, walk_from, walk_next};
 
 use crate::asking::ask_nfs;
@@ -22,10 +22,8 @@ fn object_over<L: Calls>(
     dir: &Handle,
     name: &Name,
 ) -> Result<Handle, ClientEnd>
-    ensures asks { Asks object_result (lookup_call uid gid dir.now name.now)
-        (L.at link.old) (L.at link.new) result }
-    ensures source_faults { SourceFaults result (L.at link.old).source_faults (L.at link.new).source_faults }
-    ensures sink_faults { SinkFaults result (L.at link.old).sink_faults (L.at link.new).sink_faults }
+    ensures asks { AsksOver L.relations object_result (lookup_call uid gid dir.now name.now) (L.at link.old) (L.at link.new) result }
+    ensures faults { CountsFaultsOver L.relations result (L.at link.old) (L.at link.new) }
 {
     let call = lookup_call(alloc, uid, gid, dir, name);
     match ask_nfs::<L, LookupOk, Option<Attributes>>(alloc, link, call) {
@@ -43,10 +41,8 @@ fn walk_names<L: Calls>(
     root: &Handle,
     names: &[Name],
 ) -> Result<Handle, ClientEnd>
-    ensures follows { Follows (walk_from uid gid root.now names.now)
-        (L.at link.old) (L.at link.new) result }
-    ensures source_faults { SourceFaults result (L.at link.old).source_faults (L.at link.new).source_faults }
-    ensures sink_faults { SinkFaults result (L.at link.old).sink_faults (L.at link.new).sink_faults }
+    ensures follows { FollowsOver L.relations (walk_from uid gid root.now names.now) (L.at link.old) (L.at link.new) result }
+    ensures faults { CountsFaultsOver L.relations result (L.at link.old) (L.at link.new) }
 {
     let Ok(mut dir) = Handle::from_slice(alloc, root.as_slice()) else {
         return Err(ClientEnd::Memory);
@@ -70,10 +66,8 @@ fn parent_of_names<L: Calls>(
     at: usize,
     names: &[Name],
 ) -> Result<(Handle, Name), ClientEnd>
-    ensures follows { Follows (parent_along uid gid root.now at names.now)
-        (L.at link.old) (L.at link.new) result }
-    ensures source_faults { SourceFaults result (L.at link.old).source_faults (L.at link.new).source_faults }
-    ensures sink_faults { SinkFaults result (L.at link.old).sink_faults (L.at link.new).sink_faults }
+    ensures follows { FollowsOver L.relations (parent_along uid gid root.now at names.now) (L.at link.old) (L.at link.new) result }
+    ensures faults { CountsFaultsOver L.relations result (L.at link.old) (L.at link.new) }
 {
     if names.is_empty() {
         return Err(ClientEnd::BadPath { at });
@@ -97,10 +91,8 @@ pub(crate) fn walk_over<L: Calls>(
     root: &Handle,
     path: &[u8],
 ) -> Result<Handle, ClientEnd>
-    ensures follows { Follows (walk_next uid gid root.now path.now)
-        (L.at link.old) (L.at link.new) result }
-    ensures source_faults { SourceFaults result (L.at link.old).source_faults (L.at link.new).source_faults }
-    ensures sink_faults { SinkFaults result (L.at link.old).sink_faults (L.at link.new).sink_faults }
+    ensures follows { FollowsOver L.relations (walk_next uid gid root.now path.now) (L.at link.old) (L.at link.new) result }
+    ensures faults { CountsFaultsOver L.relations result (L.at link.old) (L.at link.new) }
 {
     let names = match components(alloc, path) {
         Ok(names) => names,
@@ -118,10 +110,8 @@ pub(crate) fn walk_to_parent_over<L: Calls>(
     root: &Handle,
     path: &[u8],
 ) -> Result<(Handle, Name), ClientEnd>
-    ensures follows { Follows (parent_next uid gid root.now path.now)
-        (L.at link.old) (L.at link.new) result }
-    ensures source_faults { SourceFaults result (L.at link.old).source_faults (L.at link.new).source_faults }
-    ensures sink_faults { SinkFaults result (L.at link.old).sink_faults (L.at link.new).sink_faults }
+    ensures follows { FollowsOver L.relations (parent_next uid gid root.now path.now) (L.at link.old) (L.at link.new) result }
+    ensures faults { CountsFaultsOver L.relations result (L.at link.old) (L.at link.new) }
 {
     let names = match components(alloc, path) {
         Ok(names) => names,

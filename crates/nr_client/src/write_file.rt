@@ -5,9 +5,9 @@ ghost use Rattle.nr_nfs_base.specs.Limits.{transfer_max};
 ghost use Rattle.nr_outside.specs.Content.{HandsOut};
 ghost use Rattle.nr_outside.specs.Whole.{input_max};
 ghost use Rattle.nr_client.specs.Reading.{InputFaults};
-ghost use Rattle.nr_client.specs.Requests.{Asks, SinkFaults, SourceFaults};
+ghost use Rattle.nr_client.specs.Requests.{CountsFaultsOver, AsksOver};
 ghost use Rattle.nr_client.specs.Results.{IsOfCall};
-ghost use Rattle.nr_client.specs.Writing.{StopsAtFault, WritesFile, create_call, created_file};
+ghost use Rattle.nr_client.specs.Writing.{StopsAtFault, WritesFileOver, create_call, created_file};
 ghost use Rattle.nr_client.specs.private.FileSteps.{FailsToWrite, StreamsOn, StreamsTo, WritesOn};
 ghost use Rattle.nr_client.specs.private.InputWindows.{IsReadyAt, wanted_at};
 
@@ -44,15 +44,12 @@ fn write_piece<L: Calls>(
     at: usize,
 ) -> Result<usize, ClientEnd>
     requires { length piece.now ≤ transfer_max }
-    ensures ok { IfOk result (λ count. WritesOn uid gid file.now piece.now at (at + count)
-        (L.at link.old) (L.at link.new)) }
+    ensures ok { IfOk result (λ count. WritesOn L.relations uid gid file.now piece.now at (at + count) (L.at link.old) (L.at link.new)) }
     ensures more { IfOk result (λ count. 0 < count) }
     ensures within { IfOk result (λ count. count ≤ length piece.now) }
-    ensures err { IfErr result (λ end. FailsToWrite uid gid file.now piece.now at
-        (L.at link.old) (L.at link.new) end) }
+    ensures err { IfErr result (λ end. FailsToWrite L.relations uid gid file.now piece.now at (L.at link.old) (L.at link.new) end) }
     ensures of_call { IfErr result IsOfCall }
-    ensures source_faults { SourceFaults result (L.at link.old).source_faults (L.at link.new).source_faults }
-    ensures sink_faults { SinkFaults result (L.at link.old).sink_faults (L.at link.new).sink_faults }
+    ensures faults { CountsFaultsOver L.relations result (L.at link.old) (L.at link.new) }
 {
     let outcome = match outcome_of(link, write_call(alloc, uid, gid, file, at as u64, piece)) {
         Ok(outcome) => outcome,
@@ -85,14 +82,13 @@ fn write_next<L: Calls, N: Source>(
     requires ready { IsReadyAt at.old (N.left input.old) window.old }
     ensures ready { OnOk result (IsReadyAt at.new (N.left input.new) window.new) }
     ensures more { OnOk result (at.old < at.new) }
-    ensures ok { OnOk result (StreamsOn uid gid file.now at.old at.new window.old window.new
+    ensures ok { OnOk result (StreamsOn L.relations uid gid file.now at.old at.new window.old window.new
         (L.at link.old) (L.at link.new) (N.left input.old) (N.given input.old) (N.left input.new) (N.given input.new)) }
-    ensures err { OnErr result (StreamsTo uid gid file.now at.old window.old
+    ensures err { OnErr result (StreamsTo L.relations uid gid file.now at.old window.old
         (L.at link.old) (L.at link.new) (N.left input.old) (N.given input.old) (N.left input.new) (N.given input.new) result) }
     ensures input_faults { InputFaults result (N.faults input.old) (N.faults input.new) }
     ensures input_stops { StopsAtFault N.faults N.left N.given result input.old input.new }
-    ensures source_faults { SourceFaults result (L.at link.old).source_faults (L.at link.new).source_faults }
-    ensures sink_faults { SinkFaults result (L.at link.old).sink_faults (L.at link.new).sink_faults }
+    ensures faults { CountsFaultsOver L.relations result (L.at link.old) (L.at link.new) }
 {
     let count = match write_piece(alloc, link, uid, gid, file, window.kept(), *at) {
         Ok(count) => count,
@@ -117,12 +113,11 @@ fn write_pieces<L: Calls, N: Source>(
     input: &mut N,
 ) -> Result<(), ClientEnd>
     requires { IsReadyAt 0 (N.left input.old) window.old }
-    ensures writes { StreamsTo uid gid file.now 0 window.old
+    ensures writes { StreamsTo L.relations uid gid file.now 0 window.old
         (L.at link.old) (L.at link.new) (N.left input.old) (N.given input.old) (N.left input.new) (N.given input.new) result }
     ensures input_faults { InputFaults result (N.faults input.old) (N.faults input.new) }
     ensures input_stops { StopsAtFault N.faults N.left N.given result input.old input.new }
-    ensures source_faults { SourceFaults result (L.at link.old).source_faults (L.at link.new).source_faults }
-    ensures sink_faults { SinkFaults result (L.at link.old).sink_faults (L.at link.new).sink_faults }
+    ensures faults { CountsFaultsOver L.relations result (L.at link.old) (L.at link.new) }
 {
     let mut at = 0;
     'pieces: while at < INPUT_MAX && window.len() > 0 {
@@ -148,11 +143,9 @@ fn create_over<L: Calls>(
     dir: &Handle,
     name: &Name,
 ) -> Result<Handle, ClientEnd>
-    ensures asks { Asks created_file (create_call uid gid dir.now name.now)
-        (L.at link.old) (L.at link.new) result }
+    ensures asks { AsksOver L.relations created_file (create_call uid gid dir.now name.now) (L.at link.old) (L.at link.new) result }
     ensures of_call { IfErr result IsOfCall }
-    ensures source_faults { SourceFaults result (L.at link.old).source_faults (L.at link.new).source_faults }
-    ensures sink_faults { SinkFaults result (L.at link.old).sink_faults (L.at link.new).sink_faults }
+    ensures faults { CountsFaultsOver L.relations result (L.at link.old) (L.at link.new) }
 {
     let outcome = match outcome_of(link, create_call(alloc, uid, gid, dir, name)) {
         Ok(outcome) => outcome,
@@ -174,12 +167,11 @@ fn write_window<L: Calls, N: Source>(
 ) -> Result<(), ClientEnd>
     requires { IsReadyAt 0 (N.left input.old) window.old }
     ensures writes { (left given : Option (List ℕ)) → HandsOut left given (N.left input.old) (N.given input.old) window.old.kept
-        → WritesFile uid gid dir.now name.now
+        → WritesFileOver L.relations uid gid dir.now name.now
         (L.at link.old) (L.at link.new) left given (N.left input.new) (N.given input.new) result }
     ensures input_faults { InputFaults result (N.faults input.old) (N.faults input.new) }
     ensures input_stops { StopsAtFault N.faults N.left N.given result input.old input.new }
-    ensures source_faults { SourceFaults result (L.at link.old).source_faults (L.at link.new).source_faults }
-    ensures sink_faults { SinkFaults result (L.at link.old).sink_faults (L.at link.new).sink_faults }
+    ensures faults { CountsFaultsOver L.relations result (L.at link.old) (L.at link.new) }
 {
     let file = match create_over(alloc, link, uid, gid, dir, name) {
         Ok(file) => file,
@@ -200,12 +192,11 @@ pub(crate) fn write_file_over<L: Calls, N: Source>(
     name: &Name,
     input: &mut N,
 ) -> Result<(), ClientEnd>
-    ensures writes { WritesFile uid gid dir.now name.now
+    ensures writes { WritesFileOver L.relations uid gid dir.now name.now
         (L.at link.old) (L.at link.new) (N.left input.old) (N.given input.old) (N.left input.new) (N.given input.new) result }
     ensures input_faults { InputFaults result (N.faults input.old) (N.faults input.new) }
     ensures input_stops { StopsAtFault N.faults N.left N.given result input.old input.new }
-    ensures source_faults { SourceFaults result (L.at link.old).source_faults (L.at link.new).source_faults }
-    ensures sink_faults { SinkFaults result (L.at link.old).sink_faults (L.at link.new).sink_faults }
+    ensures faults { CountsFaultsOver L.relations result (L.at link.old) (L.at link.new) }
 {
     let mut window = InputWindow::new(alloc);
     match window.fill(input, wanted_at(0)) {

@@ -12,14 +12,15 @@ use crate::file_calls::read_call;
 use crate::file_to_read::FileToRead;
 use crate::read_data::{piece_left, write_data};
 use crate::shared_calls::outcome_of;
-use nr_outside::{Sink, Source};
+use nr_links::{LinkSink, LinkSource};
+use nr_outside::Sink;
 use nr_reduce::Outcome;
 use nr_shared::{CallRule, Pass, SharedRequester};
 use std::alloc::Global;
 use std::sync::Wait;
 
 /// One READ by a call of the caller's own, of what is left of its piece. Its data are written to the output.
-fn read_on<R: Wait, I: Source, O: Sink, C: CallRule, K: Sink>(
+fn read_on<R: Wait, I: LinkSource + Drop, O: LinkSink + Drop, C: CallRule, K: Sink>(
     rt: &R,
     shared: &SharedRequester<I, O, C>,
     pass: &mut Pass<I, O, C>,
@@ -61,7 +62,7 @@ fn read_on<R: Wait, I: Source, O: Sink, C: CallRule, K: Sink>(
 }
 
 /// READs by calls of the caller's own of the rest of a piece, one after another.
-fn read_rest<R: Wait, I: Source, O: Sink, C: CallRule, K: Sink>(
+fn read_rest<R: Wait, I: LinkSource + Drop, O: LinkSink + Drop, C: CallRule, K: Sink>(
     rt: &R,
     shared: &SharedRequester<I, O, C>,
     pass: &mut Pass<I, O, C>,
@@ -115,7 +116,7 @@ fn write_fetched<K: Sink>(
 }
 
 /// Writes the data of a piece whose first READ a job has made, and reads what is left of it.
-fn finish_piece<R: Wait, I: Source, O: Sink, C: CallRule, K: Sink>(
+fn finish_piece<R: Wait, I: LinkSource + Drop, O: LinkSink + Drop, C: CallRule, K: Sink>(
     rt: &R,
     shared: &SharedRequester<I, O, C>,
     pass: &mut Pass<I, O, C>,
@@ -148,7 +149,7 @@ fn finish_piece<R: Wait, I: Source, O: Sink, C: CallRule, K: Sink>(
 }
 
 /// Writes the data of one piece: those that a job has read, if it has, and what is left of it by calls of the caller's own.
-pub(crate) fn write_piece<R: Wait, I: Source, O: Sink, C: CallRule, K: Sink>(
+pub(crate) fn write_piece<R: Wait, I: LinkSource + Drop, O: LinkSink + Drop, C: CallRule, K: Sink>(
     rt: &R,
     shared: &SharedRequester<I, O, C>,
     pass: &mut Pass<I, O, C>,

@@ -6,59 +6,61 @@ use Rattle.nr_nfs_res.specs.declared.create.CreateOk.{CreateOk}
 use Rattle.nr_words.specs.Limits.{mount_path_max}
 use Rattle.nr_client.specs.declared.client_end.ClientEnd.{ClientEnd}
 use Rattle.nr_client.specs.declared.client_end.ClientEnd.TheVariants as client
+use Rattle.nr_client.specs.Calls.{link_relations}
 use Rattle.nr_client.specs.Listing.{list_next}
-use Rattle.nr_client.specs.Reading.{InputFaults, OutputFaults, ReadsFile}
-use Rattle.nr_client.specs.Requests.{create_result, getattr_call, getattr_result, mkdir_call, mnt_call, mnt_result, readlink_call, readlink_result, remove_call, remove_result, symlink_call}
+use Rattle.nr_client.specs.Reading.{InputFaults, OutputFaults, ReadsFileOver}
+use Rattle.nr_client.specs.Relations.{CallRelations}
+use Rattle.nr_client.specs.Requests.{CountsFaultsOver, create_result, getattr_call, getattr_result, mkdir_call, mnt_call, mnt_result, readlink_call, readlink_result, remove_call, remove_result, symlink_call}
 use Rattle.nr_client.specs.Walking.{parent_next, walk_next}
-use Rattle.nr_client.specs.Writing.{WritesFile}
+use Rattle.nr_client.specs.Writing.{WritesFileOver}
 use Rattle.nr_commands.specs.Printed.{attributes_text, handle_text, names_text, path_text}
-use Rattle.nr_commands.specs.Sessions.{CountsFaults, Fails, Part, Request, Requests, SessionAt, Text, Then}
+use Rattle.nr_commands.specs.Sessions.{FailsOver, Part, PartOver, RequestOver, RequestsOver, TextOver, ThenOver}
 
 -- MNT of an export, whose path has at most 1024 bytes (RFC 1813 section 5.1.4)
-abbrev pub Mounts : (uid gid : ℕ) → List ℕ → Part (List ℕ)
-Mounts uid gid export s s' result =
-    MatchBool (nat_lt mount_path_max (length export)) (Fails (client.Budget mount_path_max) s s' result) (Request mnt_result (mnt_call uid gid export) s s' result)
+abbrev pub MountsOver : {V : Type 0} → CallRelations V → (uid gid : ℕ) → List ℕ → PartOver V (List ℕ)
+MountsOver rel uid gid export s s' result =
+    MatchBool (nat_lt mount_path_max (length export)) (FailsOver (client.Budget mount_path_max) s s' result) (RequestOver rel mnt_result (mnt_call uid gid export) s s' result)
 
 -- from the root of an export to the file of a path, or to the directory that has its last component
-abbrev pub Finds : (uid gid : ℕ) → (export path : List ℕ) → Part (List ℕ)
-Finds uid gid export path = Then (Mounts uid gid export) (λ root. Requests (walk_next uid gid root path))
+abbrev pub FindsOver : {V : Type 0} → CallRelations V → (uid gid : ℕ) → (export path : List ℕ) → PartOver V (List ℕ)
+FindsOver rel uid gid export path = ThenOver (MountsOver rel uid gid export) (λ root. RequestsOver rel (walk_next uid gid root path))
 
-abbrev pub FindsParent : (uid gid : ℕ) → (export path : List ℕ) → Part (List ℕ × List ℕ)
-FindsParent uid gid export path = Then (Mounts uid gid export) (λ root. Requests (parent_next uid gid root path))
+abbrev pub FindsParentOver : {V : Type 0} → CallRelations V → (uid gid : ℕ) → (export path : List ℕ) → PartOver V (List ℕ × List ℕ)
+FindsParentOver rel uid gid export path = ThenOver (MountsOver rel uid gid export) (λ root. RequestsOver rel (parent_next uid gid root path))
 
 -- `mount`
-abbrev pub MountsAndPrints : (uid gid : ℕ) → List ℕ → Part (List ℕ)
-MountsAndPrints uid gid export = Then (Mounts uid gid export) (λ root. Text (handle_text root))
+abbrev pub MountsAndPrintsOver : {V : Type 0} → CallRelations V → (uid gid : ℕ) → List ℕ → PartOver V (List ℕ)
+MountsAndPrintsOver rel uid gid export = ThenOver (MountsOver rel uid gid export) (λ root. TextOver (handle_text root))
 
 -- `ls`, `stat` and `readlink`
-abbrev pub Lists : (uid gid : ℕ) → (export path : List ℕ) → Part (List ℕ)
-Lists uid gid export path = Then (Finds uid gid export path) (λ dir. Then (Requests (list_next uid gid dir)) (λ names. Text (names_text names)))
+abbrev pub ListsOver : {V : Type 0} → CallRelations V → (uid gid : ℕ) → (export path : List ℕ) → PartOver V (List ℕ)
+ListsOver rel uid gid export path = ThenOver (FindsOver rel uid gid export path) (λ dir. ThenOver (RequestsOver rel (list_next uid gid dir)) (λ names. TextOver (names_text names)))
 
-abbrev pub Stats : (uid gid : ℕ) → (export path : List ℕ) → Part (List ℕ)
-Stats uid gid export path =
-    Then (Finds uid gid export path) (λ file. Then (Request getattr_result (getattr_call uid gid file)) (λ attributes. Text (attributes_text attributes)))
+abbrev pub StatsOver : {V : Type 0} → CallRelations V → (uid gid : ℕ) → (export path : List ℕ) → PartOver V (List ℕ)
+StatsOver rel uid gid export path =
+    ThenOver (FindsOver rel uid gid export path) (λ file. ThenOver (RequestOver rel getattr_result (getattr_call uid gid file)) (λ attributes. TextOver (attributes_text attributes)))
 
-abbrev pub ReadsLink : (uid gid : ℕ) → (export path : List ℕ) → Part (List ℕ)
-ReadsLink uid gid export path =
-    Then (Finds uid gid export path) (λ file. Then (Request readlink_result (readlink_call uid gid file)) (λ link. Text (path_text link.path)))
+abbrev pub ReadsLinkOver : {V : Type 0} → CallRelations V → (uid gid : ℕ) → (export path : List ℕ) → PartOver V (List ℕ)
+ReadsLinkOver rel uid gid export path =
+    ThenOver (FindsOver rel uid gid export path) (λ file. ThenOver (RequestOver rel readlink_result (readlink_call uid gid file)) (λ link. TextOver (path_text link.path)))
 
 -- `mkdir`, `rm` and `ln`, which print nothing
-abbrev pub MakesDirectory : (uid gid : ℕ) → (export path : List ℕ) → Part (List ℕ)
-MakesDirectory uid gid export path =
-    Then (FindsParent uid gid export path) (λ place. Then (Request create_result (mkdir_call uid gid place.0 place.1)) (λ made. Text []))
+abbrev pub MakesDirectoryOver : {V : Type 0} → CallRelations V → (uid gid : ℕ) → (export path : List ℕ) → PartOver V (List ℕ)
+MakesDirectoryOver rel uid gid export path =
+    ThenOver (FindsParentOver rel uid gid export path) (λ place. ThenOver (RequestOver rel create_result (mkdir_call uid gid place.0 place.1)) (λ made. TextOver []))
 
-abbrev pub Removes : (uid gid : ℕ) → (export path : List ℕ) → Part (List ℕ)
-Removes uid gid export path =
-    Then (FindsParent uid gid export path) (λ place. Then (Request remove_result (remove_call uid gid place.0 place.1)) (λ removed. Text []))
+abbrev pub RemovesOver : {V : Type 0} → CallRelations V → (uid gid : ℕ) → (export path : List ℕ) → PartOver V (List ℕ)
+RemovesOver rel uid gid export path =
+    ThenOver (FindsParentOver rel uid gid export path) (λ place. ThenOver (RequestOver rel remove_result (remove_call uid gid place.0 place.1)) (λ removed. TextOver []))
 
 -- SYMLINK, whose path has at most 1024 bytes
-abbrev pub Symlinks : (uid gid : ℕ) → (dir name target : List ℕ) → Part CreateOk
-Symlinks uid gid dir name target s s' result =
-    MatchBool (nat_lt link_target_max (length target)) (Fails (client.Budget link_target_max) s s' result) (Request create_result (symlink_call uid gid dir name target) s s' result)
+abbrev pub SymlinksOver : {V : Type 0} → CallRelations V → (uid gid : ℕ) → (dir name target : List ℕ) → PartOver V CreateOk
+SymlinksOver rel uid gid dir name target s s' result =
+    MatchBool (nat_lt link_target_max (length target)) (FailsOver (client.Budget link_target_max) s s' result) (RequestOver rel create_result (symlink_call uid gid dir name target) s s' result)
 
-abbrev pub MakesSymlink : (uid gid : ℕ) → (export path target : List ℕ) → Part (List ℕ)
-MakesSymlink uid gid export path target =
-    Then (FindsParent uid gid export path) (λ place. Then (Symlinks uid gid place.0 place.1 target) (λ made. Text []))
+abbrev pub MakesSymlinkOver : {V : Type 0} → CallRelations V → (uid gid : ℕ) → (export path target : List ℕ) → PartOver V (List ℕ)
+MakesSymlinkOver rel uid gid export path target =
+    ThenOver (FindsParentOver rel uid gid export path) (λ place. ThenOver (SymlinksOver rel uid gid place.0 place.1 target) (λ made. TextOver []))
 
 -- ---- `get` and `put`, which print nothing else
 
@@ -70,26 +72,73 @@ IsSilent (Err end) (Ok text) = ⊥
 IsSilent (Err end) (Err why) = why ≡ end
 
 -- the bytes of a file were written to the output
-abbrev pub ReadsOut : (uid gid : ℕ) → (file : List ℕ) → (out out' : SinkAt) → Part (List ℕ)
-ReadsOut uid gid file out out' s s' text =
+abbrev pub ReadsOutOver : {V : Type 0} → CallRelations V → (uid gid : ℕ) → (file : List ℕ) → (out out' : SinkAt) → PartOver V (List ℕ)
+ReadsOutOver rel uid gid file out out' s s' text =
     (done : Result (Unit {0}) ClientEnd)
-    × ((ReadsFile uid gid file s s' out.taken out'.taken done × (OutputFaults done out.faults out'.faults × CountsFaults s s' done)) × IsSilent done text)
+    × ((ReadsFileOver rel uid gid file s s' out.taken out'.taken done × (OutputFaults done out.faults out'.faults × CountsFaultsOver rel done s s')) × IsSilent done text)
 
 -- the bytes of the input were written to a file of this name
-abbrev pub WritesIn : (uid gid : ℕ) → (dir name : List ℕ) → (input input' : SourceAt) → Part (List ℕ)
-WritesIn uid gid dir name input input' s s' text =
+abbrev pub WritesInOver : {V : Type 0} → CallRelations V → (uid gid : ℕ) → (dir name : List ℕ) → (input input' : SourceAt) → PartOver V (List ℕ)
+WritesInOver rel uid gid dir name input input' s s' text =
     (done : Result (Unit {0}) ClientEnd)
-    × ((WritesFile uid gid dir name s s' input.left input.given input'.left input'.given done × (InputFaults done input.faults input'.faults × CountsFaults s s' done))
+    × ((WritesFileOver rel uid gid dir name s s' input.left input.given input'.left input'.given done × (InputFaults done input.faults input'.faults × CountsFaultsOver rel done s s'))
     × IsSilent done text)
 
 -- a file was found, and its bytes written to the output; if none was found, the output is as before
-abbrev pub Gets : (uid gid : ℕ) → (export path : List ℕ) → (out out' : SinkAt) → Part (List ℕ)
-Gets uid gid export path out out' s s' text =
-    ((file : List ℕ) × ((mid : SessionAt) × (Finds uid gid export path s mid (Ok file) × ReadsOut uid gid file out out' mid s' text)))
-    ⊎ ((end : ClientEnd) × (Finds uid gid export path s s' (Err end) × ((text ≡ Err end) × (out' ≡ out))))
+abbrev pub GetsOver : {V : Type 0} → CallRelations V → (uid gid : ℕ) → (export path : List ℕ) → (out out' : SinkAt) → PartOver V (List ℕ)
+GetsOver {V} rel uid gid export path out out' s s' text =
+    ((file : List ℕ) × ((mid : V) × (FindsOver rel uid gid export path s mid (Ok file) × ReadsOutOver rel uid gid file out out' mid s' text)))
+    ⊎ ((end : ClientEnd) × (FindsOver rel uid gid export path s s' (Err end) × ((text ≡ Err end) × (out' ≡ out))))
 
 -- a directory was found, and the bytes of the input written to a file in it; if none was found, the input is as before
+abbrev pub PutsOver : {V : Type 0} → CallRelations V → (uid gid : ℕ) → (export path : List ℕ) → (input input' : SourceAt) → PartOver V (List ℕ)
+PutsOver {V} rel uid gid export path input input' s s' text =
+    ((place : List ℕ × List ℕ) × ((mid : V) × (FindsParentOver rel uid gid export path s mid (Ok place) × WritesInOver rel uid gid place.0 place.1 input input' mid s' text)))
+    ⊎ ((end : ClientEnd) × (FindsParentOver rel uid gid export path s s' (Err end) × ((text ≡ Err end) × (input' ≡ input))))
+
+-- ---- Over a link that one caller has
+
+abbrev pub Mounts : (uid gid : ℕ) → List ℕ → Part (List ℕ)
+Mounts uid gid export = MountsOver link_relations uid gid export
+
+abbrev pub Finds : (uid gid : ℕ) → (export path : List ℕ) → Part (List ℕ)
+Finds uid gid export path = FindsOver link_relations uid gid export path
+
+abbrev pub FindsParent : (uid gid : ℕ) → (export path : List ℕ) → Part (List ℕ × List ℕ)
+FindsParent uid gid export path = FindsParentOver link_relations uid gid export path
+
+abbrev pub MountsAndPrints : (uid gid : ℕ) → List ℕ → Part (List ℕ)
+MountsAndPrints uid gid export = MountsAndPrintsOver link_relations uid gid export
+
+abbrev pub Lists : (uid gid : ℕ) → (export path : List ℕ) → Part (List ℕ)
+Lists uid gid export path = ListsOver link_relations uid gid export path
+
+abbrev pub Stats : (uid gid : ℕ) → (export path : List ℕ) → Part (List ℕ)
+Stats uid gid export path = StatsOver link_relations uid gid export path
+
+abbrev pub ReadsLink : (uid gid : ℕ) → (export path : List ℕ) → Part (List ℕ)
+ReadsLink uid gid export path = ReadsLinkOver link_relations uid gid export path
+
+abbrev pub MakesDirectory : (uid gid : ℕ) → (export path : List ℕ) → Part (List ℕ)
+MakesDirectory uid gid export path = MakesDirectoryOver link_relations uid gid export path
+
+abbrev pub Removes : (uid gid : ℕ) → (export path : List ℕ) → Part (List ℕ)
+Removes uid gid export path = RemovesOver link_relations uid gid export path
+
+abbrev pub Symlinks : (uid gid : ℕ) → (dir name target : List ℕ) → Part CreateOk
+Symlinks uid gid dir name target = SymlinksOver link_relations uid gid dir name target
+
+abbrev pub MakesSymlink : (uid gid : ℕ) → (export path target : List ℕ) → Part (List ℕ)
+MakesSymlink uid gid export path target = MakesSymlinkOver link_relations uid gid export path target
+
+abbrev pub ReadsOut : (uid gid : ℕ) → (file : List ℕ) → (out out' : SinkAt) → Part (List ℕ)
+ReadsOut uid gid file out out' = ReadsOutOver link_relations uid gid file out out'
+
+abbrev pub WritesIn : (uid gid : ℕ) → (dir name : List ℕ) → (input input' : SourceAt) → Part (List ℕ)
+WritesIn uid gid dir name input input' = WritesInOver link_relations uid gid dir name input input'
+
+abbrev pub Gets : (uid gid : ℕ) → (export path : List ℕ) → (out out' : SinkAt) → Part (List ℕ)
+Gets uid gid export path out out' = GetsOver link_relations uid gid export path out out'
+
 abbrev pub Puts : (uid gid : ℕ) → (export path : List ℕ) → (input input' : SourceAt) → Part (List ℕ)
-Puts uid gid export path input input' s s' text =
-    ((place : List ℕ × List ℕ) × ((mid : SessionAt) × (FindsParent uid gid export path s mid (Ok place) × WritesIn uid gid place.0 place.1 input input' mid s' text)))
-    ⊎ ((end : ClientEnd) × (FindsParent uid gid export path s s' (Err end) × ((text ≡ Err end) × (input' ≡ input))))
+Puts uid gid export path input input' = PutsOver link_relations uid gid export path input input'

@@ -7,8 +7,8 @@ use Rattle.nr_link.specs.declared.end.End.{End}
 use Rattle.nr_link.specs.declared.end.End.TheVariants as ends
 use Rattle.nr_nfs_base.specs.MountStatus.{mount_status_number}
 use Rattle.nr_nfs_base.specs.Status.{status_number}
-use Rattle.nr_client.specs.declared.call_end.CallEnd.{CallEnd}
-use Rattle.nr_client.specs.declared.call_end.CallEnd.TheVariants as calls
+use Rattle.nr_shared.specs.declared.call_end.CallEnd.{CallEnd}
+use Rattle.nr_shared.specs.declared.call_end.CallEnd.TheVariants as calls
 use Rattle.nr_client.specs.declared.client_end.RpcKind.{RpcKind}
 use Rattle.nr_client.specs.declared.client_end.RpcKind.TheVariants as kinds
 use Rattle.nr_client.specs.declared.client_end.ClientEnd.{ClientEnd}
@@ -46,6 +46,8 @@ call_text (calls.Ended end) = link_text end
 call_text calls.LinkRead = line (codes "link fault")
 call_text calls.LinkWrite = line (codes "link fault")
 call_text calls.Closed = line (codes "link closed")
+call_text (calls.Tries n) = line (codes "link closed")
+call_text calls.DialFault = line (codes "link fault")
 call_text (calls.Spent left need) = line_with (codes "budget ") left
 call_text (calls.TooLarge need room) = line_with (codes "budget ") need
 call_text (calls.Budget read) = line_with (codes "budget ") read

@@ -12,10 +12,12 @@ use Rattle.nr_words.specs.declared.commands.Action.TheVariants as actions
 use Rattle.nr_words.specs.declared.commands.Client.{Client}
 use Rattle.nr_client.specs.declared.client_end.ClientEnd.{ClientEnd}
 use Rattle.nr_client.specs.declared.client_end.ClientEnd.TheVariants as client
+use Rattle.nr_client.specs.Calls.{link_relations}
 use Rattle.nr_client.specs.Dialing.{DialerAt, OpenFails, session_credits}
 use Rattle.nr_client.specs.LinkParts.{RepresentsNewLink}
-use Rattle.nr_commands.specs.Commands.{Gets, Lists, MakesDirectory, MakesSymlink, MountsAndPrints, Puts, ReadsLink, Removes, Stats}
-use Rattle.nr_commands.specs.Sessions.{Part, SessionAt, sink_of, source_of}
+use Rattle.nr_client.specs.Relations.{CallRelations}
+use Rattle.nr_commands.specs.Commands.{GetsOver, ListsOver, MakesDirectoryOver, MakesSymlinkOver, MountsAndPrintsOver, PutsOver, ReadsLinkOver, RemovesOver, StatsOver}
+use Rattle.nr_commands.specs.Sessions.{Part, PartOver, SessionAt, sink_of, source_of}
 
 -- what the client of a command says of the Sends of its link
 abbrev pub terms_of : Client Text → SideTerms
@@ -47,16 +49,19 @@ abbrev pub Closes : (number : ℕ) → SessionAt → (before after : DialerAt) �
 Closes number s before after = HangsUp number (source_of s) (sink_of s) before after
 
 -- the part of each command up to its text; `put` reads the input, and `get` writes to the output
+abbrev pub text_of_over : {V : Type 0} → CallRelations V → (uid gid : ℕ) → List ℕ → Action Text → (input input' : SourceAt) → (out out' : SinkAt) → PartOver V (List ℕ)
+text_of_over rel uid gid export actions.Mount input input' out out' s s' text = MountsAndPrintsOver rel uid gid export s s' text × ((input' ≡ input) × (out' ≡ out))
+text_of_over rel uid gid export (actions.List path) input input' out out' s s' text = ListsOver rel uid gid export path s s' text × ((input' ≡ input) × (out' ≡ out))
+text_of_over rel uid gid export (actions.Stat path) input input' out out' s s' text = StatsOver rel uid gid export path s s' text × ((input' ≡ input) × (out' ≡ out))
+text_of_over rel uid gid export (actions.ReadLink path) input input' out out' s s' text = ReadsLinkOver rel uid gid export path s s' text × ((input' ≡ input) × (out' ≡ out))
+text_of_over rel uid gid export (actions.MakeDirectory path) input input' out out' s s' text = MakesDirectoryOver rel uid gid export path s s' text × ((input' ≡ input) × (out' ≡ out))
+text_of_over rel uid gid export (actions.Remove path) input input' out out' s s' text = RemovesOver rel uid gid export path s s' text × ((input' ≡ input) × (out' ≡ out))
+text_of_over rel uid gid export (actions.Link path target) input input' out out' s s' text = MakesSymlinkOver rel uid gid export path target s s' text × ((input' ≡ input) × (out' ≡ out))
+text_of_over rel uid gid export (actions.Put path) input input' out out' s s' text = PutsOver rel uid gid export path input input' s s' text × (out' ≡ out)
+text_of_over rel uid gid export (actions.Get path) input input' out out' s s' text = GetsOver rel uid gid export path out out' s s' text × (input' ≡ input)
+
 abbrev pub text_of : (uid gid : ℕ) → List ℕ → Action Text → (input input' : SourceAt) → (out out' : SinkAt) → Part (List ℕ)
-text_of uid gid export actions.Mount input input' out out' s s' text = MountsAndPrints uid gid export s s' text × ((input' ≡ input) × (out' ≡ out))
-text_of uid gid export (actions.List path) input input' out out' s s' text = Lists uid gid export path s s' text × ((input' ≡ input) × (out' ≡ out))
-text_of uid gid export (actions.Stat path) input input' out out' s s' text = Stats uid gid export path s s' text × ((input' ≡ input) × (out' ≡ out))
-text_of uid gid export (actions.ReadLink path) input input' out out' s s' text = ReadsLink uid gid export path s s' text × ((input' ≡ input) × (out' ≡ out))
-text_of uid gid export (actions.MakeDirectory path) input input' out out' s s' text = MakesDirectory uid gid export path s s' text × ((input' ≡ input) × (out' ≡ out))
-text_of uid gid export (actions.Remove path) input input' out out' s s' text = Removes uid gid export path s s' text × ((input' ≡ input) × (out' ≡ out))
-text_of uid gid export (actions.Link path target) input input' out out' s s' text = MakesSymlink uid gid export path target s s' text × ((input' ≡ input) × (out' ≡ out))
-text_of uid gid export (actions.Put path) input input' out out' s s' text = Puts uid gid export path input input' s s' text × (out' ≡ out)
-text_of uid gid export (actions.Get path) input input' out out' s s' text = Gets uid gid export path out out' s s' text × (input' ≡ input)
+text_of uid gid export action input input' out out' = text_of_over link_relations uid gid export action input input' out out'
 
 -- A text is printed, completely or, if the output fails, a proper prefix of it. Without a text nothing is printed.
 abbrev pub IsPrinted : Result (List ℕ) ClientEnd → Result (Unit {0}) ClientEnd → (out out' : SinkAt) → Type 0

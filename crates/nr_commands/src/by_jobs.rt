@@ -115,7 +115,7 @@ where
 }
 
 /// Runs a `get` by several jobs, 1 to 16: opens a session, finds the file, reads it by the jobs, each in a thread of its own if there is one,
-/// and hangs the link up. The bytes of the file are written to `out` in order of offset, those of at most 2 pieces of each job at a time.
+/// and hangs the link up. The bytes of the file are written to `out` in order of offset, those of one piece of each job at a time.
 ///
 /// # Errors
 ///

@@ -1,7 +1,7 @@
 //! The commands that move the bytes of a file.
 
 ghost use Rattle.nr_outside.specs.Streams.{sink_at, source_at};
-ghost use Rattle.nr_commands.specs.Commands.{Gets, IsSilent, Puts};
+ghost use Rattle.nr_commands.specs.Commands.{GetsOver, IsSilent, PutsOver};
 
 use crate::finding::{find, find_parent};
 use nr_client::{Calls, ClientEnd, Session};
@@ -36,7 +36,7 @@ pub(crate) fn get<L: Calls, K: Sink>(
     path: &str,
     out: &mut K,
 ) -> Result<Octets, ClientEnd>
-    ensures { Gets session.old.uid session.old.gid export.now path.now
+    ensures { GetsOver L.relations session.old.uid session.old.gid export.now path.now
         (sink_at (K.taken out.old) (K.faults out.old)) (sink_at (K.taken out.new) (K.faults out.new)) (L.at session.old.link) (L.at session.new.link) result }
 {
     let file = match find(alloc, session, export, path) {
@@ -56,7 +56,7 @@ pub(crate) fn put<L: Calls, N: Source>(
     path: &str,
     input: &mut N,
 ) -> Result<Octets, ClientEnd>
-    ensures { Puts session.old.uid session.old.gid export.now path.now
+    ensures { PutsOver L.relations session.old.uid session.old.gid export.now path.now
         (source_at (N.left input.old) (N.given input.old) (N.faults input.old)) (source_at (N.left input.new) (N.given input.new) (N.faults input.new)) (L.at session.old.link) (L.at session.new.link) result }
 {
     let place = match find_parent(alloc, session, export, path) {

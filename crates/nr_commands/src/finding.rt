@@ -1,7 +1,7 @@
 //! What commands begin with: the export is mounted, and a file is found along a path.
 
 ghost use Rattle.std.specs.Prelude.{◌≡◌};
-ghost use Rattle.nr_commands.specs.Commands.{Finds, FindsParent, Mounts};
+ghost use Rattle.nr_commands.specs.Commands.{FindsOver, FindsParentOver, MountsOver};
 
 use nr_client::{Calls, ClientEnd, Session};
 use nr_nfs_base::{Handle, MOUNT_PATH_MAX, MountPath, Name};
@@ -16,7 +16,7 @@ pub(crate) fn mount<L: Calls>(
     session: &mut Session<L>,
     export: &str,
 ) -> Result<Handle, ClientEnd>
-    ensures part { Mounts session.old.uid session.old.gid export.now (L.at session.old.link) (L.at session.new.link) result }
+    ensures part { MountsOver L.relations session.old.uid session.old.gid export.now (L.at session.old.link) (L.at session.new.link) result }
     ensures user { (session.new.uid ≡ session.old.uid) × (session.new.gid ≡ session.old.gid) }
 {
     let len = export.len();
@@ -38,7 +38,7 @@ pub(crate) fn find<L: Calls>(
     export: &str,
     path: &str,
 ) -> Result<Handle, ClientEnd>
-    ensures part { Finds session.old.uid session.old.gid export.now path.now (L.at session.old.link) (L.at session.new.link) result }
+    ensures part { FindsOver L.relations session.old.uid session.old.gid export.now path.now (L.at session.old.link) (L.at session.new.link) result }
     ensures user { (session.new.uid ≡ session.old.uid) × (session.new.gid ≡ session.old.gid) }
 {
     let root = match mount(alloc, session, export) {
@@ -55,7 +55,7 @@ pub(crate) fn find_parent<L: Calls>(
     export: &str,
     path: &str,
 ) -> Result<(Handle, Name), ClientEnd>
-    ensures part { FindsParent session.old.uid session.old.gid export.now path.now (L.at session.old.link) (L.at session.new.link) result }
+    ensures part { FindsParentOver L.relations session.old.uid session.old.gid export.now path.now (L.at session.old.link) (L.at session.new.link) result }
     ensures user { (session.new.uid ≡ session.old.uid) × (session.new.gid ≡ session.old.gid) }
 {
     let root = match mount(alloc, session, export) {

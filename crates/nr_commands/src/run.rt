@@ -4,7 +4,7 @@ ghost use Rattle.std.specs.Prelude.{◌≡◌};
 ghost use Rattle.nr_outside.specs.Streams.{sink_at, source_at};
 ghost use Rattle.nr_words.specs.Lines.{plain_action, plain_client};
 ghost use Rattle.nr_client.specs.Dialing.{dialer_at};
-ghost use Rattle.nr_commands.specs.Running.{IsPrinted, Runs, text_of};
+ghost use Rattle.nr_commands.specs.Running.{IsPrinted, Runs, text_of_over};
 
 use crate::files::{get, put};
 use crate::texts::{
@@ -19,7 +19,7 @@ use std::alloc::Global;
 use std::marker::Brand;
 
 /// Makes the requests of a command, and gives the text that it prints.
-fn text_of<L: Calls, N: Source, K: Sink>(
+pub(crate) fn text_of<L: Calls, N: Source, K: Sink>(
     alloc: Global,
     session: &mut Session<L>,
     export: &str,
@@ -27,7 +27,7 @@ fn text_of<L: Calls, N: Source, K: Sink>(
     input: &mut N,
     out: &mut K,
 ) -> Result<Octets, ClientEnd>
-    ensures { text_of session.old.uid session.old.gid export.now (plain_action action.now)
+    ensures { text_of_over L.relations session.old.uid session.old.gid export.now (plain_action action.now)
         (source_at (N.left input.old) (N.given input.old) (N.faults input.old)) (source_at (N.left input.new) (N.given input.new) (N.faults input.new))
         (sink_at (K.taken out.old) (K.faults out.old)) (sink_at (K.taken out.new) (K.faults out.new))
         (L.at session.old.link) (L.at session.new.link) result }
@@ -46,7 +46,7 @@ fn text_of<L: Calls, N: Source, K: Sink>(
 }
 
 /// Prints a text, if there is one.
-fn print<O: Sink>(out: &mut O, text: Result<Octets, ClientEnd>) -> Result<(), ClientEnd>
+pub(crate) fn print<O: Sink>(out: &mut O, text: Result<Octets, ClientEnd>) -> Result<(), ClientEnd>
     ensures { IsPrinted text result (sink_at (O.taken out.old) (O.faults out.old)) (sink_at (O.taken out.new) (O.faults out.new)) }
 {
     let text = match text {

@@ -2,7 +2,7 @@
 
 ghost use Rattle.std.specs.Prelude.{◌≡◌, List, ℕ, IfOk, MatchResult};
 ghost use Rattle.nr_client.specs.declared.client_end.ClientEnd.TheVariants as client;
-ghost use Rattle.nr_commands.specs.Commands.{Lists, MakesDirectory, MakesSymlink, MountsAndPrints, ReadsLink, Removes, Stats, Symlinks};
+ghost use Rattle.nr_commands.specs.Commands.{ListsOver, MakesDirectoryOver, MakesSymlinkOver, MountsAndPrintsOver, ReadsLinkOver, RemovesOver, StatsOver, SymlinksOver};
 
 use crate::finding::{find, find_parent, mount};
 use crate::printing::{attributes_text, handle_text, names_text, path_text};
@@ -31,7 +31,7 @@ pub(crate) fn mount_text<L: Calls>(
     session: &mut Session<L>,
     export: &str,
 ) -> Result<Octets, ClientEnd>
-    ensures part { MountsAndPrints session.old.uid session.old.gid export.now (L.at session.old.link) (L.at session.new.link) result }
+    ensures part { MountsAndPrintsOver L.relations session.old.uid session.old.gid export.now (L.at session.old.link) (L.at session.new.link) result }
     ensures user { (session.new.uid ≡ session.old.uid) × (session.new.gid ≡ session.old.gid) }
 {
     let root = match mount(alloc, session, export) {
@@ -48,7 +48,7 @@ pub(crate) fn list_text<L: Calls>(
     export: &str,
     path: &str,
 ) -> Result<Octets, ClientEnd>
-    ensures part { Lists session.old.uid session.old.gid export.now path.now (L.at session.old.link) (L.at session.new.link) result }
+    ensures part { ListsOver L.relations session.old.uid session.old.gid export.now path.now (L.at session.old.link) (L.at session.new.link) result }
     ensures user { (session.new.uid ≡ session.old.uid) × (session.new.gid ≡ session.old.gid) }
 {
     let dir = match find(alloc, session, export, path) {
@@ -69,7 +69,7 @@ pub(crate) fn stat_text<L: Calls>(
     export: &str,
     path: &str,
 ) -> Result<Octets, ClientEnd>
-    ensures part { Stats session.old.uid session.old.gid export.now path.now (L.at session.old.link) (L.at session.new.link) result }
+    ensures part { StatsOver L.relations session.old.uid session.old.gid export.now path.now (L.at session.old.link) (L.at session.new.link) result }
     ensures user { (session.new.uid ≡ session.old.uid) × (session.new.gid ≡ session.old.gid) }
 {
     let file = match find(alloc, session, export, path) {
@@ -90,7 +90,7 @@ pub(crate) fn read_link_text<L: Calls>(
     export: &str,
     path: &str,
 ) -> Result<Octets, ClientEnd>
-    ensures part { ReadsLink session.old.uid session.old.gid export.now path.now (L.at session.old.link) (L.at session.new.link) result }
+    ensures part { ReadsLinkOver L.relations session.old.uid session.old.gid export.now path.now (L.at session.old.link) (L.at session.new.link) result }
     ensures user { (session.new.uid ≡ session.old.uid) × (session.new.gid ≡ session.old.gid) }
 {
     let file = match find(alloc, session, export, path) {
@@ -111,7 +111,7 @@ pub(crate) fn make_directory<L: Calls>(
     export: &str,
     path: &str,
 ) -> Result<Octets, ClientEnd>
-    ensures part { MakesDirectory session.old.uid session.old.gid export.now path.now (L.at session.old.link) (L.at session.new.link) result }
+    ensures part { MakesDirectoryOver L.relations session.old.uid session.old.gid export.now path.now (L.at session.old.link) (L.at session.new.link) result }
     ensures user { (session.new.uid ≡ session.old.uid) × (session.new.gid ≡ session.old.gid) }
 {
     let place = match find_parent(alloc, session, export, path) {
@@ -132,7 +132,7 @@ pub(crate) fn remove<L: Calls>(
     export: &str,
     path: &str,
 ) -> Result<Octets, ClientEnd>
-    ensures part { Removes session.old.uid session.old.gid export.now path.now (L.at session.old.link) (L.at session.new.link) result }
+    ensures part { RemovesOver L.relations session.old.uid session.old.gid export.now path.now (L.at session.old.link) (L.at session.new.link) result }
     ensures user { (session.new.uid ≡ session.old.uid) × (session.new.gid ≡ session.old.gid) }
 {
     let place = match find_parent(alloc, session, export, path) {
@@ -154,7 +154,7 @@ fn symlink<L: Calls>(
     name: &Name,
     target: &str,
 ) -> Result<CreateOk, ClientEnd>
-    ensures part { Symlinks session.old.uid session.old.gid dir.now name.now target.now (L.at session.old.link) (L.at session.new.link) result }
+    ensures part { SymlinksOver L.relations session.old.uid session.old.gid dir.now name.now target.now (L.at session.old.link) (L.at session.new.link) result }
     ensures user { (session.new.uid ≡ session.old.uid) × (session.new.gid ≡ session.old.gid) }
 {
     let len = target.len();
@@ -177,7 +177,7 @@ pub(crate) fn make_link<L: Calls>(
     path: &str,
     target: &str,
 ) -> Result<Octets, ClientEnd>
-    ensures part { MakesSymlink session.old.uid session.old.gid export.now path.now target.now (L.at session.old.link) (L.at session.new.link) result }
+    ensures part { MakesSymlinkOver L.relations session.old.uid session.old.gid export.now path.now target.now (L.at session.old.link) (L.at session.new.link) result }
     ensures user { (session.new.uid ≡ session.old.uid) × (session.new.gid ≡ session.old.gid) }
 {
     let place = match find_parent(alloc, session, export, path) {

@@ -24,10 +24,10 @@ use Rattle.nr_script.specs.declared.script.Line.{Line}
 use Rattle.nr_script.specs.declared.script.Line.TheVariants as lines
 use Rattle.nr_xdr.specs.Item.{IsBytes}
 use Rattle.nr_reduce.specs.Plans.{HasWordPosition}
-use Rattle.nr_script.specs.Script.{ScriptLines, HasWritableCred, IsTypedCred, IsTypedLine, FollowOn, is_client, is_call_line, credits_in_range, may_follow}
+use Rattle.nr_script.specs.Script.{ScriptLines, HasWritableCred, IsTypedCred, IsTypedLine, FollowOn, is_client, is_call_line, credits_in_range, may_follow, IsScript}
 use Rattle.nr_drill.specs.Drill.{Setting, Drill, setting_now, last_link, pipes_of, cred_of, with_cred, after_submit, after_up, after_down, after_work, after_calls, after_all_up, after_all_work, after_moves, after_round, after_forget, after_revoke, after_drop, after_raw, after_grant, after_leaving, after_drop_if, after_rejoin_on, after_rejoin}
 use Rattle.nr_drill.specs.Follows.{Drains, Makes, MakeAll}
-use Rattle.nr_drill.specs.Lines.{is_raw_of, acts_on, IsDrillScript}
+use Rattle.nr_drill.specs.Lines.{is_raw_of, acts_on}
 use Rattle.nr_drill.proofs.Followed.{KeepsLinks, extending_keeps, same_setting, submit_adds, up_adds, down_adds, work_adds, forget_adds, revoke_adds, drop_adds, raw_adds, grant_adds}
 
 -- ===== what is done on a link
@@ -411,7 +411,7 @@ lines_apart own (line ∷ all) none = (let e = neither (acts_on own line) (list_
     neither true b e = absurd cc
     neither false b e = (refl, e)
 
-pub lines_of : (script : ScriptLines) → IsDrillScript script → AllByRecursion (IsLineOf script.opening AnyRaw) script.lines
+pub lines_of : (script : ScriptLines) → IsScript script → AllByRecursion (IsLineOf script.opening AnyRaw) script.lines
 lines_of script is = lines_from script.opening AnyRaw [] script.lines is.follow_on is.creds is.typed (any_raw script.lines)
 
 none_of_client : (own : ℕ) (all : List Line) → list_any (is_raw_of own) all ≡ false → AllByRecursion (RawOf (NotOf own)) all
@@ -440,7 +440,7 @@ none_of_client own (line ∷ all) e = (let h = neither (is_raw_of own line) (lis
     by (lines.Grant c credits) e = tt
     by lines.Drain e = tt
 
-pub lines_not_of : (own : ℕ) (script : ScriptLines) → IsDrillScript script → list_any (is_raw_of own) script.lines ≡ false → AllByRecursion (IsLineOf script.opening (NotOf own)) script.lines
+pub lines_not_of : (own : ℕ) (script : ScriptLines) → IsScript script → list_any (is_raw_of own) script.lines ≡ false → AllByRecursion (IsLineOf script.opening (NotOf own)) script.lines
 lines_not_of own script is none = lines_from script.opening (NotOf own) [] script.lines is.follow_on is.creds is.typed (none_of_client own script.lines none)
 
 -- so it is of a line, if it puts none there

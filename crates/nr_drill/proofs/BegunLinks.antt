@@ -17,13 +17,12 @@ use Rattle.nr_laws.proofs.OpenedAgain.{reopened_links_are_opened}
 use Rattle.nr_laws.specs.Reopened.{AgreedInRange}
 use Rattle.nr_reduce.proofs.Steps.{AtEachMark_first}
 use Rattle.nr_script.proofs.ByteLists.{no_bytes_lem}
-use Rattle.nr_drill.specs.Lines.{IsDrillScript}
 use Rattle.nr_drill.specs.InBytes.{RepliedMark, RepliedInBytes}
 use Rattle.nr_drill.proofs.TypedDrills.{IsTypedDrill, PipesOfBytes, TypedIf, ResumedTyped, typed_if, kept_typed, opening_keeps_steps, start_typed}
 use Rattle.nr_texts.specs.declared.opening.Opening.{Opening}
 use Rattle.nr_texts.specs.Limits.{clients_max}
 use Rattle.nr_script.specs.Limits.{lines_max}
-use Rattle.nr_script.specs.Script.{ScriptLines}
+use Rattle.nr_script.specs.Script.{ScriptLines, IsScript}
 use Rattle.nr_drill.specs.Drill.{SerialServer, link_of, Setting, Drill, IsLink, client_of, last_link, setting_now, links_of, pipes_of, empty_pipes, start, with_link, after_opening, after_openings, after_leaving}
 use Rattle.nr_drill.specs.Follows.{Follows, parameters_of, setting_of, opened_drill}
 use Rattle.nr_drill.proofs.Lawful.{asked_so_far, none_in}
@@ -358,7 +357,7 @@ map_length g [] = refl
 map_length g (x ∷ xs) = ap (λ (m : ℕ). suc m) (map_length g xs)
 
 -- what the links of a script are opened with
-first_terms : (script : ScriptLines) → IsDrillScript script → (link : ℕ) → 1 ≤ link → link ≤ script.opening.clients → HasTerms script.opening (parameters_of script.opening link)
+first_terms : (script : ScriptLines) → IsScript script → (link : ℕ) → 1 ≤ link → link ≤ script.opening.clients → HasTerms script.opening (parameters_of script.opening link)
 first_terms script is link low high = record {
   granted = refl;
   terms = (is.some_client_units, is.few_client_units, by script.opening.numbered);
@@ -404,7 +403,7 @@ pub none_of_next : (server : SerialServer) (script : ScriptLines) (done : ℕ) (
 none_of_next server script done d h =
     map_all (λ (mark : Mark). (1 ≤ link_of mark) × (link_of mark ≤ done)) (λ (mark : Mark). link_of mark ≢ done + 1) d.marks (λ mark a. (λ same. (let most = a.1 in omega (arith, most, same)))) h.within
 
-module _ (server : SerialServer) (script : ScriptLines) (is : IsDrillScript script) where
+module _ (server : SerialServer) (script : ScriptLines) (is : IsScript script) where
   abbrev base : Setting
   base = setting_of server script.opening
 

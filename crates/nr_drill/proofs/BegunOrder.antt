@@ -22,8 +22,7 @@ use Rattle.nr_laws.proofs.Brought.{frames_in, events_frames}
 use Rattle.nr_laws.specs.OnceEach.{HasNotBegun, IsNextLink}
 use Rattle.nr_texts.specs.declared.opening.Opening.{Opening}
 use Rattle.nr_script.specs.Limits.{lines_max}
-use Rattle.nr_script.specs.Script.{ScriptLines}
-use Rattle.nr_drill.specs.Lines.{IsDrillScript}
+use Rattle.nr_script.specs.Script.{ScriptLines, IsScript}
 use Rattle.nr_drill.specs.Drill.{SerialServer, link_of, Setting, Drill, IsLink, client_of, last_link, setting_now, after_opening, after_leaving}
 use Rattle.nr_drill.specs.Follows.{Follows, setting_of, opened_drill}
 use Rattle.nr_drill.specs.InBytes.{RepliedInBytes}
@@ -457,7 +456,7 @@ order_kept s opening =
 
 -- ===== the first links
 
-module _ (server : SerialServer) (script : ScriptLines) (is : IsDrillScript script) where
+module _ (server : SerialServer) (script : ScriptLines) (is : IsScript script) where
   abbrev first : Drill
   first = opened_drill server script.opening
 

@@ -18,8 +18,7 @@ use Rattle.nr_byte_laws.specs.DueBytes.{AreInBytes}
 use Rattle.nr_byte_laws.proofs.ByteServers.{ReadyOfBytes, ready_bytes}
 use Rattle.nr_texts.specs.declared.opening.Opening.{Opening}
 use Rattle.nr_script.specs.Limits.{lines_max}
-use Rattle.nr_script.specs.Script.{ScriptLines}
-use Rattle.nr_drill.specs.Lines.{IsDrillScript}
+use Rattle.nr_script.specs.Script.{ScriptLines, IsScript}
 use Rattle.nr_drill.specs.Drill.{SerialServer, Setting, Drill, setting_now, start, links_of, if_standing, waiting_call, after_opening, after_openings}
 use Rattle.nr_drill.specs.Follows.{Follows, setting_of, opened_drill}
 use Rattle.nr_drill.specs.InBytes.{RepliedMark, RepliedInBytes, ExecutedMark, ExecutedInBytes}
@@ -145,7 +144,7 @@ openings_bytes server opening replies (link ∷ links) d h =
     openings_bytes server opening replies links (after_opening s link d)
     (opening_keeps_steps s link IsByteDrill (byte_steps s link tt tt (λ e typed executed. replies s.opened link e typed executed)) d h)
 
-pub first_bytes : (server : SerialServer) (script : ScriptLines) → IsDrillScript script → AnswersInBytes (setting_of server script.opening) → BytesThen (setting_of server script.opening) script.opening 0 (opened_drill server script.opening)
+pub first_bytes : (server : SerialServer) (script : ScriptLines) → IsScript script → AnswersInBytes (setting_of server script.opening) → BytesThen (setting_of server script.opening) script.opening 0 (opened_drill server script.opening)
 unfolding opened_drill
 first_bytes server script is replies = (
   first_then server script is,
@@ -154,7 +153,7 @@ first_bytes server script is replies = (
 )
 
 -- so all that a script makes is of its types
-pub script_bytes : (server : SerialServer) (script : ScriptLines) (run : List Mark) → IsDrillScript script → AnswersInBytes (setting_of server script.opening) → (follows : Follows server script run) → IsByteDrill follows.last
+pub script_bytes : (server : SerialServer) (script : ScriptLines) (run : List Mark) → IsScript script → AnswersInBytes (setting_of server script.opening) → (follows : Follows server script run) → IsByteDrill follows.last
 script_bytes server script run is replies follows =
     let s = setting_of server script.opening in
     (lines_kept s script.opening AnyRaw AnyRaw (BytesThen s script.opening) (bytes_kept s script.opening AnyRaw replies) 0 (length script.lines) script.opening.clients script.lines (opened_drill server script.opening) follows.last

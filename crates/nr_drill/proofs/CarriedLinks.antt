@@ -21,8 +21,7 @@ use Rattle.nr_texts.specs.declared.opening.Opening.{Opening}
 use Rattle.nr_script.specs.Limits.{lines_max}
 use Rattle.nr_script.specs.declared.script.Line.{Line}
 use Rattle.nr_script.specs.declared.script.Line.TheVariants as lines
-use Rattle.nr_script.specs.Script.{ScriptLines}
-use Rattle.nr_drill.specs.Lines.{IsDrillScript}
+use Rattle.nr_script.specs.Script.{ScriptLines, IsScript}
 use Rattle.nr_drill.specs.Drill.{SerialServer, Setting, Drill, IsLink, client_of, setting_now, pipes_of, empty_pipes, start, with_cred, after_raw, after_opening, after_openings, after_leaving, last_link}
 use Rattle.nr_drill.specs.Follows.{Makes, MakeAll, Follows, HasRawLine, setting_of, last_setting, opened_drill}
 use Rattle.nr_drill.specs.Headline.{KeepsLaws}
@@ -231,7 +230,7 @@ first_one s clients done d apart empty room h = record { links = by }
             let ne : done + 1 ≢ link = (λ same. differs (sym e ∙ eq-eqb (done + 1) link same)) in
             carries_elsewhere link (done + 1) d (after_opening s (done + 1) d) ne (apart_pipes link (done + 1) low (omega arith) (λ same. ne (sym same))) x (h.links link low (omega (arith, high, ne)))
 
-first_all : (server : SerialServer) (script : ScriptLines) (is : IsDrillScript script) (done more : ℕ) (d : Drill) → done + more ≡ script.opening.clients → AreOpen server script done d → FirstCarry done d →
+first_all : (server : SerialServer) (script : ScriptLines) (is : IsScript script) (done more : ℕ) (d : Drill) → done + more ≡ script.opening.clients → AreOpen server script done d → FirstCarry done d →
     FirstCarry script.opening.clients (after_openings (setting_of server script.opening) (range_with_len (done + 1) more) d)
 first_all server script is done zero d all a h = (let same : done ≡ script.opening.clients = omega (arith, all) in subst (λ (m : ℕ). FirstCarry m d) same h)
 first_all server script is done (suc more) d all a h =
@@ -240,7 +239,7 @@ first_all server script is done (suc more) d all a h =
     first_all server script is (done + 1) more (after_opening s (done + 1) d) (omega (arith, all)) (open_one server script is done d le a)
     (first_one s script.opening.clients done d (none_of_next server script done d a) (a.empty (done + 1) (omega arith) le) (let room = a.room in omega (arith, room, le)) h)
 
-pub first_carries : (server : SerialServer) (script : ScriptLines) → IsDrillScript script → (own : ℕ) → ClientCarries (setting_of server script.opening) own (opened_drill server script.opening)
+pub first_carries : (server : SerialServer) (script : ScriptLines) → IsScript script → (own : ℕ) → ClientCarries (setting_of server script.opening) own (opened_drill server script.opening)
 unfolding opened_drill
 first_carries server script is own link within mine =
     let all = first_all server script is 0 script.opening.clients (start (setting_of server script.opening) script.opening.clients) (omega arith) (at_start server script is) (record { links = λ l low high. absurd (omega (arith, low, high)) }) in
@@ -364,7 +363,7 @@ module _ (server : SerialServer) (script : ScriptLines) (own : ℕ) (not : HasRa
       (line_carried base script.opening own n clients line old e.0 w.0 e.1 (none_here before rest line old cut made) h)
 
   -- after all lines
-  link_carried : (is : IsDrillScript script) (last : Drill) → MakeAll base clients script.lines first last → RepliedInBytes last.marks → IsLink last own → Carries own last
+  link_carried : (is : IsScript script) (last : Drill) → MakeAll base clients script.lines first last → RepliedInBytes last.marks → IsLink last own → Carries own last
   link_carried is last makes replied within =
       (rest_carried 0 (length script.lines) [] script.lines first last refl refl (lines_of script is) (omega arith) makes
       (first_then server script is, λ le all there. first_carries server script is (client_of (setting_now base first) own) own there refl)).1 is.few_lines replied within
@@ -375,7 +374,7 @@ link_laws : (opening : Opening) (n : ℕ) (o : LinkParameters) (link : ℕ) (run
 link_laws opening n o link run h = laws_of o link run h.lawful h.written h.none
 
 -- of a script whose first links carry what is sent on them
-pub follows_keeps : (server : SerialServer) (script : ScriptLines) (run : List Mark) → IsDrillScript script → RepliedInBytes run → (follows : Follows server script run) → (link : ℕ) → IsLink follows.last link →
+pub follows_keeps : (server : SerialServer) (script : ScriptLines) (run : List Mark) → IsScript script → RepliedInBytes run → (follows : Follows server script run) → (link : ℕ) → IsLink follows.last link →
     KeepsLaws server script ((last_setting follows).opened link) (client_of (last_setting follows) link) link run
 follows_keeps server script run is replied follows link within =
     let s = setting_of server script.opening in

@@ -22,8 +22,7 @@ use Rattle.nr_reduce.specs.Run.{client}
 use Rattle.nr_reduce.proofs.Unresumed.{none_resent}
 use Rattle.nr_texts.specs.declared.opening.Opening.{Opening}
 use Rattle.nr_script.specs.Limits.{lines_max}
-use Rattle.nr_script.specs.Script.{ScriptLines}
-use Rattle.nr_drill.specs.Lines.{IsDrillScript}
+use Rattle.nr_script.specs.Script.{ScriptLines, IsScript}
 use Rattle.nr_drill.specs.Drill.{SerialServer, link_of, Setting, Drill, IsLink, client_of, last_link, links_of, setting_now, start, with_cred, after_opening, after_openings, after_leaving}
 use Rattle.nr_drill.specs.Follows.{Follows, setting_of, opened_drill}
 use Rattle.nr_drill.specs.InBytes.{RepliedInBytes}
@@ -324,7 +323,7 @@ none_so_far : (link : ℕ) → executed_calls link [] ≡ []
 unfolding executed_calls
 none_so_far link = refl
 
-module _ (server : SerialServer) (script : ScriptLines) (is : IsDrillScript script) where
+module _ (server : SerialServer) (script : ScriptLines) (is : IsScript script) where
   abbrev first : Drill
   first = opened_drill server script.opening
 

@@ -23,8 +23,8 @@ use Rattle.nr_texts.specs.declared.opening.Opening.{Opening}
 use Rattle.nr_script.specs.Limits.{lines_max}
 use Rattle.nr_script.specs.declared.script.Line.{Line}
 use Rattle.nr_script.specs.declared.script.Line.TheVariants as lines
-use Rattle.nr_script.specs.Script.{ScriptLines}
-use Rattle.nr_drill.specs.Lines.{EndsWithDrain, IsDrillScript}
+use Rattle.nr_script.specs.Script.{ScriptLines, IsScript}
+use Rattle.nr_drill.specs.Lines.{EndsWithDrain}
 use Rattle.nr_drill.specs.Drill.{link_of, SerialServer, Setting, Drill, IsLink, client_of, last_link, setting_now, pipes_of, with_cred, if_standing, waiting_call, after_moves, after_round, after_opening, after_leaving}
 use Rattle.nr_drill.specs.Follows.{is_empty, is_still, Drains, MakeAll, Follows, setting_of, last_setting, opened_drill}
 use Rattle.nr_drill.specs.InBytes.{RepliedInBytes}
@@ -248,8 +248,23 @@ drains_keep s links (suc rounds) old new e = then_keep old (after_round s links 
 
 -- ===== a script that ends with a drain, for a link
 
+-- A link that isn't dropped is the last one of its client.
+pub standing_is_last : (server : SerialServer) (script : ScriptLines) (run : List Mark) → IsScript script → RepliedInBytes run → (follows : Follows server script run) → (link : ℕ) → IsLink follows.last link →
+    is_dropped link run ≡ false → link ≡ last_link (client_of (last_setting follows) link) follows.last
+standing_is_last server script run is replied follows link within standing = by (eqb link last) refl
+  where
+    last : ℕ
+    last = last_link (client_of (last_setting follows) link) follows.last
+
+    order : InOrder (last_setting follows) script.opening.clients follows.last
+    order = links_in_order server script is run replied follows
+
+    by : (b : Bool) → eqb link last ≡ b → link ≡ last
+    by true e = eqb-true link last e
+    by false e = absurd (let gone = order.gone link within (λ same. differs_at (sym e ∙ eq-eqb link last same)) in differs_at (sym standing ∙ ap (λ (r : List Mark). is_dropped link r) follows.marks_are ∙ gone))
+
 -- After a drain that no later line of the client of a matched link follows nothing waits on it, if it wasn't dropped.
-pub follows_waits : (server : SerialServer) (script : ScriptLines) (run : List Mark) → IsDrillScript script → RepliedInBytes run → (follows : Follows server script run) → (link : ℕ) → IsLink follows.last link → Matched link run →
+pub follows_waits : (server : SerialServer) (script : ScriptLines) (run : List Mark) → IsScript script → RepliedInBytes run → (follows : Follows server script run) → (link : ℕ) → IsLink follows.last link → Matched link run →
     is_dropped link run ≡ false → EndsWithDrain script (client_of (last_setting follows) link) → NothingInTransit ((last_setting follows).opened link) link run
 follows_waits server script run is replied follows link within matched standing ends =
     let here : is_dropped link follows.last.marks ≡ false = ap (λ (r : List Mark). is_dropped link r) (sym follows.marks_are) ∙ standing in
@@ -276,11 +291,7 @@ follows_waits server script run is replied follows link within matched standing 
     order = links_in_order server script is run replied follows
 
     last_is : link ≡ last_link own follows.last
-    last_is = by (eqb link (last_link own follows.last)) refl
-      where
-        by : (b : Bool) → eqb link (last_link own follows.last) ≡ b → link ≡ last_link own follows.last
-        by true e = eqb-true link (last_link own follows.last) e
-        by false e = absurd (let gone = order.gone link within (λ same. differs_at (sym e ∙ eq-eqb link (last_link own follows.last) same)) in differs_at (sym standing ∙ ap (λ (r : List Mark). is_dropped link r) follows.marks_are ∙ gone))
+    last_is = standing_is_last server script run is replied follows link within standing
 
     cut : IsCut s clients ends.before ends.after (opened_drill server script.opening) follows.last
     cut = cut_at s clients ends.before ends.after (opened_drill server script.opening) follows.last

@@ -1,4 +1,4 @@
--- Each step of the drains of a script that moves something leaves less work, if no line before puts bytes into the pipes of its client's links.
+-- Each step of the drains of a script that moves something leaves less work, if no line before is a `raw` line of its client.
 use Rattle.std.specs.Prelude.{◌<◌, ◌-◌, slice_index_or}
 use Rattle.std.specs.List.{list_all, AllByRecursion}
 use Rattle.std.proofs.Common.{◌≡◌, ℕ, zero, suc, ◌+◌, ◌≤◌, arith, Bool, true, false, List, [], ◌∷◌, ◌++◌, length, refl, sym, ap, subst, ◌∙◌, append-nil, append_assoc, length-append}
@@ -11,8 +11,8 @@ use Rattle.nr_texts.specs.declared.opening.Opening.{Opening}
 use Rattle.nr_script.specs.Limits.{lines_max}
 use Rattle.nr_script.specs.declared.script.Line.{Line}
 use Rattle.nr_script.specs.declared.script.Line.TheVariants as lines
-use Rattle.nr_script.specs.Script.{ScriptLines}
-use Rattle.nr_drill.specs.Lines.{HasNoRaw, IsDrillScript}
+use Rattle.nr_script.specs.Script.{ScriptLines, IsScript}
+use Rattle.nr_drill.specs.Lines.{HasNoRaw}
 use Rattle.nr_drill.specs.Drill.{SerialServer, Setting, Drill, IsLink, client_of, last_link, setting_now, pipes_of, after_all_up, after_all_work, after_all_down, after_calls, after_work, after_moves, after_round}
 use Rattle.nr_drill.specs.Follows.{is_still, Drains, MakeAll, Follows, setting_of, opened_drill}
 use Rattle.nr_drill.specs.InBytes.{RepliedMark, RepliedInBytes}
@@ -166,7 +166,7 @@ running_from s link d h c heard =
       number = heard.number;
     }
 
-module _ (server : SerialServer) (script : ScriptLines) (run : List Mark) (is : IsDrillScript script) (replied : RepliedInBytes run) (typed : IsTyped run) (follows : Follows server script run) (link : ℕ) (step : DrainStep) (d : Drill) (x : IsDrainStep server script link step d)
+module _ (server : SerialServer) (script : ScriptLines) (run : List Mark) (is : IsScript script) (replied : RepliedInBytes run) (typed : IsTyped run) (follows : Follows server script run) (link : ℕ) (step : DrainStep) (d : Drill) (x : IsDrainStep server script link step d)
     (raw : HasNoRaw x.before (client_of (setting_then x) link)) where
   abbrev s : Setting
   s = setting_of server script.opening
@@ -300,5 +300,5 @@ module _ (server : SerialServer) (script : ScriptLines) (run : List Mark) (is : 
   step_less : Moves t link step d → IsLess (work_left t (after_step t link step d) link) (work_left t d link)
   step_less moves = steps_leave_less t link step d now_holds.opened running moves step_typed
 
-pub follows_leaves_less : (server : SerialServer) (script : ScriptLines) (run : List Mark) → IsDrillScript script → RepliedInBytes run → IsTyped run → Follows server script run → (link : ℕ) → DrainStepsLeaveLess server script link
+pub follows_leaves_less : (server : SerialServer) (script : ScriptLines) (run : List Mark) → IsScript script → RepliedInBytes run → IsTyped run → Follows server script run → (link : ℕ) → DrainStepsLeaveLess server script link
 follows_leaves_less server script run is replied typed follows link step d x raw moves = step_less server script run is replied typed follows link step d x raw moves

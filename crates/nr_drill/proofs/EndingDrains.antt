@@ -1,4 +1,4 @@
--- After the first lines of a script, none of which puts bytes into pipes, a drain ends.
+-- After the first lines of a script, none of which is a `raw` line, a drain ends.
 use Rattle.std.specs.Prelude.{◌<◌, ◌≤◌, ◌-◌, slice_index_or}
 use Rattle.std.specs.List.{AllByRecursion}
 use Rattle.std.proofs.Common.{◌≡◌, ◌≢◌, ℕ, zero, suc, ◌+◌, arith, Bool, true, false, List, [], ◌∷◌, ◌++◌, length, take, drop, Option, Some, refl, sym, ap, subst, ◌∙◌, length-append}

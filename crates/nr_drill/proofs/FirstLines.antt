@@ -10,7 +10,7 @@ use Rattle.nr_script.specs.declared.script.Line.{Line}
 use Rattle.nr_script.specs.declared.script.Line.TheVariants as lines
 use Rattle.nr_drill.specs.Drill.{SerialServer, Setting, Drill, last_link, links_of, setting_now, cred_of, after_submit, after_up, after_down, after_work, after_forget, after_revoke, after_drop, after_raw, after_grant, start, after_moves, after_round, after_opening, after_openings}
 use Rattle.nr_drill.specs.Follows.{after_line, Drains, Makes, MakeAll, Follows, parameters_of, setting_of, opened_drill}
-use Rattle.nr_drill.specs.Lines.{IsClient, IsDrillScript, IsUnnumbered}
+use Rattle.nr_drill.specs.Lines.{IsClient, IsUnnumbered}
 use Rattle.nr_drill.proofs.FirstLinks.{now_is}
 use Rattle.nr_drill.proofs.Opening.{heard_by_lem}
 use Rattle.nr_drill.proofs.BegunLinks.{open_drill}
@@ -22,24 +22,6 @@ use Rattle.nr_script.specs.Script.{ScriptLines, IsScript, FollowOn, may_follow, 
 use Rattle.std.proofs.lemmas.Bool.{leb-true}
 use Rattle.nr_reduce.specs.declared.mark.LinkParameters.{LinkParameters}
 use Rattle.nr_drill.specs.Unnumbered.{first_line, FirstMakes, FirstMakeAll, Heard}
-
--- a script whose clients have no numbers is one of a drill
-pub drill_script : (script : ScriptLines) → IsScript script → IsDrillScript script
-drill_script script is = record {
-  some_clients = is.some_clients;
-  few_clients = is.few_clients;
-  some_credits = is.some_credits;
-  few_credits = is.few_credits;
-  capacity = is.capacity;
-  some_client_units = is.some_client_units;
-  few_client_units = is.few_client_units;
-  some_server_units = is.some_server_units;
-  few_server_units = is.few_server_units;
-  few_lines = is.few_lines;
-  follow_on = is.follow_on;
-  creds = is.creds;
-  typed = is.typed;
-}
 
 -- a line names a client from 1 on
 abbrev pub NamesClient : Line → Type 0
@@ -338,4 +320,4 @@ lines_heard o s clients link [] old new e h = subst (λ (d : Drill). Heard o lin
 lines_heard o s clients link (line ∷ others) old new e h = lines_heard o s clients link others e.0 new e.2 (made_heard o s clients link line old e.0 e.1 h)
 
 pub opened_heard : (server : SerialServer) (script : ScriptLines) → IsScript script → IsUnnumbered script → (link : ℕ) → IsClient script link → Heard (parameters_of script.opening link) link (opened_drill server script.opening).marks
-opened_heard server script is none link within = ((open_drill server script (drill_script script is)).links link within.0 within.1).heard
+opened_heard server script is none link within = ((open_drill server script is).links link within.0 within.1).heard

@@ -13,7 +13,7 @@ use Rattle.nr_drill.specs.LinkEnds.{AreClients}
 use Rattle.nr_drill.specs.Lines.{IsUnnumbered}
 use Rattle.nr_drill.proofs.FirstLinks.{opened_firsts, own_client}
 use Rattle.nr_drill.proofs.Followed.{KeepsAll}
-use Rattle.nr_drill.proofs.FirstLines.{drill_script, follows_first}
+use Rattle.nr_drill.proofs.FirstLines.{follows_first}
 use Rattle.nr_drill.proofs.BegunLinks.{lines_hold}
 use Rattle.nr_drill.proofs.Numbering.{typed_replies}
 
@@ -53,6 +53,6 @@ pub first_link : (server : SerialServer) (script : ScriptLines) (run : List Mark
 first_link server script run is none drill before after mark cut =
     let follows = drill.follows in
     let count = first_count server script run is none follows in
-    let within = subst (AllByRecursion (λ (m : Mark). IsLink follows.last (link_of m))) (sym follows.marks_are ∙ cut) (lines_hold server script (drill_script script is) run (typed_replies run drill.typed) follows).frame.within in
+    let within = subst (AllByRecursion (λ (m : Mark). IsLink follows.last (link_of m))) (sym follows.marks_are ∙ cut) (lines_hold server script is run (typed_replies run drill.typed) follows).frame.within in
     let here = all_at (λ (m : Mark). IsLink follows.last (link_of m)) before after mark within in
     (here.0, (let most = here.1 in omega (arith, most, count)))

@@ -34,10 +34,9 @@ use Rattle.nr_reduce.proofs.Steps.{client_one}
 use Rattle.nr_reduce.specs.SubmitAnswer.{submit_answer_after, calls_to_resend}
 use Rattle.nr_reduce.specs.Served.{Served, ServedMark, ToldInRange, last_frame_at}
 use Rattle.nr_laws.specs.Grant.{AcceptedMark, AcceptsByRule}
-use Rattle.nr_script.specs.Script.{ScriptLines}
+use Rattle.nr_script.specs.Script.{ScriptLines, IsScript}
 use Rattle.nr_reduce.specs.Concerns.{concerns}
 use Rattle.nr_reduce.proofs.Unconcerned.{not_judged, none_written, no_events, none_asked, none_served}
-use Rattle.nr_drill.specs.Lines.{IsDrillScript}
 use Rattle.nr_drill.specs.Follows.{parameters_of}
 use Rattle.nr_drill.specs.Drill.{link_of, Setting, Drill, Pipes, GivenReply, client_of, setting_now, standing_of, reply_given, resend_mark, after_resends, unwritten, after_output, after_all_output, settled, pipes_of, with_mark, after_submit, after_feeding, after_feeding_up, after_up, waiting_call, after_answer, after_call, after_execution, after_work, after_calls, after_drop, after_raw, after_feeding_down, after_handing, after_done, after_dones, after_outcomes, after_down, answer_of_line, open_xid, after_giving_up, after_forget, after_taking_back, after_revoke, after_all_up, after_all_work, after_all_down, after_moves, after_opening, with_pipes, appended, empty_pipes, after_grant}
 use Rattle.nr_drill.proofs.Lawful.{IsLawful, IsWritten, IsDueOf, Keeps, NoneAgain, OpenIsAwaited, again_mark, other_side_lem, lawful_mark, left_is, due_more, more_due, due_of, lawful_settled, lawful_drop, lawful_forget, lawful_after_up, lawful_after_down, lawful_grant, quiet_grant}
@@ -423,7 +422,7 @@ extending_keeps link old new x = record { opened = x.opened; last_links = x.last
 pub same_setting : (s : Setting) (old new : Drill) → KeepsLinks old new → setting_now s new ≡ setting_now s old
 same_setting s old new k = ap (λ (all : List LinkParameters). record s { opened = λ link. slice_index_or (s.opened 0 ∷ all) link (s.opened link) }) k.opened
 
-pub opened_by_script : (script : ScriptLines) → IsDrillScript script → (link : ℕ) → IsOpened (parameters_of script.opening link)
+pub opened_by_script : (script : ScriptLines) → IsScript script → (link : ℕ) → IsOpened (parameters_of script.opening link)
 opened_by_script script is link =
     let some = is.some_credits in
     let few = is.few_credits in

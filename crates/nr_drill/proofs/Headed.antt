@@ -9,8 +9,7 @@ use Rattle.nr_tree.specs.Sane.{IsSane}
 use Rattle.nr_plain.proofs.PlainServers.{server_is_plain}
 use Rattle.nr_plain.proofs.KeptCalls.{server_keeps_calls}
 use Rattle.nr_plain.proofs.ChangesFit.{server_fits_changes}
-use Rattle.nr_script.specs.Script.{ScriptLines}
-use Rattle.nr_drill.specs.Lines.{IsDrillScript}
+use Rattle.nr_script.specs.Script.{ScriptLines, IsScript}
 use Rattle.nr_drill.specs.Drill.{SerialServer, plain_of}
 use Rattle.nr_drill.specs.DrillSetup.{drill_setup, server_of}
 use Rattle.nr_drill.specs.Follows.{Follows, last_setting}
@@ -23,10 +22,11 @@ use Rattle.nr_drill.proofs.PlacesByLinks.{places_rise}
 use Rattle.nr_drill.proofs.NoOldCalls.{standing_has_no_old}
 use Rattle.nr_drill.proofs.StayingLinks.{both_stay, have_completed}
 use Rattle.nr_drill.proofs.Drained.{follows_waits}
+use Rattle.nr_drill.proofs.SettledCalls.{all_settled}
 use Rattle.nr_drill.proofs.DrainedSteps.{follows_leaves_less}
 
 -- if the server is a plain one that keeps its calls, whose replies to changes fit every offer, and each reply is bytes
-pub follows_is_drill : (server : SerialServer) (script : ScriptLines) (run : List Mark) → IsDrillScript script → KeepsReplyLimits (plain_of server) → KeepsCalls server.reply_to server.adds → FitsChanges (plain_of server) → RepliedInBytes run → Follows server script run →
+pub follows_is_drill : (server : SerialServer) (script : ScriptLines) (run : List Mark) → IsScript script → KeepsReplyLimits (plain_of server) → KeepsCalls server.reply_to server.adds → FitsChanges (plain_of server) → RepliedInBytes run → Follows server script run →
     IsDrillRun server script run
 follows_is_drill server script run is plain keeps fits replied follows = record {
   follows = follows;
@@ -50,12 +50,15 @@ follows_is_drill server script run is plain keeps fits replied follows = record 
             (waits, have_completed server script run is replied follows plain keeps link within matched old kept_memory conveyed waits));
         done = λ ends. (have_completed server script run is replied follows plain keeps link within matched old kept_memory conveyed
             (follows_waits server script run is replied follows link within (matched link within.0 (omega arith) refl) standing ends)).has_done (follows_keeps server script run is replied follows link within).handed;
+        settled = λ ends. all_settled server script run is replied follows link within standing
+            (have_completed server script run is replied follows plain keeps link within matched old kept_memory conveyed (follows_waits server script run is replied follows link within (matched link within.0 (omega arith) refl) standing ends))
+            (follows_keeps server script run is replied follows link within).handed;
       });
   drains = λ link within. follows_leaves_less server script run is replied (typed server script run is replied follows) follows link;
 }
 
 -- So it is of a drill's own server: what is left to a driver is to follow its script, and that its replies are bytes by their type.
-pub drill_is_run : (tree : Tree) (script : ScriptLines) (run : List Mark) → IsSane tree → IsDrillScript script → RepliedInBytes run → Follows (server_of (drill_setup tree script.opening)) script run →
+pub drill_is_run : (tree : Tree) (script : ScriptLines) (run : List Mark) → IsSane tree → IsScript script → RepliedInBytes run → Follows (server_of (drill_setup tree script.opening)) script run →
     IsDrillRun (server_of (drill_setup tree script.opening)) script run
 drill_is_run tree script run sane is replied follows =
     let setup = drill_setup tree script.opening in

@@ -40,8 +40,7 @@ use Rattle.nr_drill.proofs.ByteDrills.{IsByteDrill, next_of_lem}
 use Rattle.nr_drill.proofs.NumberedJournals.{HeardMark, JournalSoFar, StandingMark, journal_more}
 use Rattle.nr_drill.proofs.NumberedRuns.{ActionRules, IsJournaled, action_by, acted_journaled, each_then}
 use Rattle.nr_drill.proofs.Opening.{number_more}
-use Rattle.nr_drill.specs.Lines.{IsDrillScript}
-use Rattle.nr_script.specs.Script.{ScriptLines}
+use Rattle.nr_script.specs.Script.{ScriptLines, IsScript}
 
 -- ===== each call is executed under the xid of its payload
 
@@ -92,7 +91,7 @@ openings_own : (s : Setting) (links : List ℕ) (d : Drill) → AtEachMark OwnXi
 openings_own s [] d h = h
 openings_own s (link ∷ links) d h = openings_own s links (after_opening s link d) (each_then OwnXidMark d (after_opening s link d) (opening_by OwnXidMark s link (own_quiet s link) d) h)
 
-pub first_own : (server : SerialServer) (script : ScriptLines) → IsDrillScript script → OwnThen script.opening 0 (opened_drill server script.opening)
+pub first_own : (server : SerialServer) (script : ScriptLines) → IsScript script → OwnThen script.opening 0 (opened_drill server script.opening)
 unfolding opened_drill
 first_own server script is = (first_count server script is, openings_own (setting_of server script.opening) (links_of script.opening.clients) (start (setting_of server script.opening) script.opening.clients) tt)
 

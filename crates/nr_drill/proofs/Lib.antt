@@ -20,6 +20,7 @@ pub mod ByteDrills
 pub mod DrillTrees
 pub mod LessRounds
 pub mod LessPlain
+pub mod SettledCalls
 pub mod SomeRuns
 pub mod OneRun
 pub mod Told

@@ -11,8 +11,7 @@ use Rattle.nr_laws.specs.MarkAt.{MarkAt}
 use Rattle.nr_laws.specs.EndCauses.{HasNoOldCall, NotOldMark}
 use Rattle.nr_laws.specs.OnceEach.{AcceptsWithEarlier, IsFirstOf, IsLeft}
 use Rattle.nr_laws.proofs.OldCalls.{no_call_is_old}
-use Rattle.nr_script.specs.Script.{ScriptLines}
-use Rattle.nr_drill.specs.Lines.{IsDrillScript}
+use Rattle.nr_script.specs.Script.{ScriptLines, IsScript}
 use Rattle.nr_drill.specs.Drill.{SerialServer, Setting, IsLink, client_of, last_link, journal_of}
 use Rattle.nr_drill.specs.Follows.{Follows, last_setting}
 use Rattle.nr_drill.specs.Headline.{IsMatchedFromFirst}
@@ -31,7 +30,7 @@ each_by P before (mark ∷ run) all = (
   each_by P (before ++ mark ∷ []) run (λ part m rest e. subst (λ (b : List Mark). P b m) (sym (append_assoc before (mark ∷ []) part)) (all (mark ∷ part) m rest (ap (λ (r : List Mark). mark ∷ r) e))),
 )
 
-module _ (server : SerialServer) (script : ScriptLines) (run : List Mark) (is : IsDrillScript script) (replied : RepliedInBytes run) (follows : Follows server script run) where
+module _ (server : SerialServer) (script : ScriptLines) (run : List Mark) (is : IsScript script) (replied : RepliedInBytes run) (follows : Follows server script run) where
   abbrev t : Setting
   t = last_setting follows
 

@@ -19,8 +19,7 @@ use Rattle.nr_reduce.specs.Asked.{revoked_bytes}
 use Rattle.nr_reduce.specs.Run.{server, client}
 use Rattle.nr_reduce.proofs.Standing.{sent_one, received_one}
 use Rattle.nr_script.specs.declared.script.Line.TheVariants as lines
-use Rattle.nr_script.specs.Script.{ScriptLines}
-use Rattle.nr_drill.specs.Lines.{IsDrillScript}
+use Rattle.nr_script.specs.Script.{ScriptLines, IsScript}
 use Rattle.nr_drill.specs.Drill.{SerialServer, Setting, Drill, Pipes, empty_pipes, unwritten, appended, after_output, after_all_output, settled, pipes_of, with_mark, after_feeding, after_feeding_up, after_feeding_down, after_up, after_down, after_handing, after_done, after_dones, after_outcomes, after_submit, waiting_call, after_answer, after_execution, after_work, after_calls, after_all_up, after_all_work, after_moves, answer_of_line, open_xid, after_giving_up, after_forget, after_taking_back, after_revoke, after_drop, after_raw, after_opening, after_openings, start, links_of, IsLink, last_link, setting_now, after_leaving, after_grant, GivenReply, client_of, standing_of, reply_given, resend_mark, after_resends, after_call}
 use Rattle.nr_drill.specs.Follows.{Follows, setting_of, opened_drill}
 use Rattle.nr_drill.proofs.Lawful.{own_written, up_written, down_written}
@@ -453,7 +452,7 @@ start_none s clients link low high = record {
   down = λ e. omega arith;
 }
 
-first_loses : (server : SerialServer) (script : ScriptLines) → IsDrillScript script → LosesNothing (opened_drill server script.opening)
+first_loses : (server : SerialServer) (script : ScriptLines) → IsScript script → LosesNothing (opened_drill server script.opening)
 unfolding opened_drill
 first_loses server script is link within =
     let opening = script.opening in
@@ -462,7 +461,7 @@ first_loses server script is link within =
     none_openings s link (links_of opening.clients) (start s opening.clients) within.0 (from_one 1 opening.clients (omega arith))
     (start_none s opening.clients link within.0 (let most = within.1 in omega (arith, most, many)))
 
-pub follows_lose_nothing : (server : SerialServer) (script : ScriptLines) (run : List Mark) → IsDrillScript script → RepliedInBytes run → (follows : Follows server script run) → LosesNothing follows.last
+pub follows_lose_nothing : (server : SerialServer) (script : ScriptLines) (run : List Mark) → IsScript script → RepliedInBytes run → (follows : Follows server script run) → LosesNothing follows.last
 follows_lose_nothing server script run is replied follows =
     let s = setting_of server script.opening in
     (lines_kept s script.opening AnyRaw AnyRaw (LosesThen s script.opening) (loses_kept s script.opening) 0 (length script.lines) script.opening.clients script.lines (opened_drill server script.opening) follows.last

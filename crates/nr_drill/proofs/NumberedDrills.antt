@@ -35,8 +35,7 @@ use Rattle.nr_laws.proofs.EntriesApart.{no_entry_twice}
 use Rattle.nr_laws.proofs.NumberedChanges.{numbered_changes_are_answered}
 use Rattle.nr_laws.proofs.PlacesUntilLeft.{links_are_at_places_until_left}
 use Rattle.nr_laws.proofs.CompletedChanges.{completed_changes_have_entries}
-use Rattle.nr_script.specs.Script.{ScriptLines}
-use Rattle.nr_drill.specs.Lines.{IsDrillScript}
+use Rattle.nr_script.specs.Script.{ScriptLines, IsScript}
 use Rattle.nr_drill.specs.Drill.{SerialServer, link_of, Setting, IsLink, client_of, plain_of, journal_of}
 use Rattle.nr_drill.specs.Follows.{Follows, setting_of, last_setting}
 use Rattle.nr_drill.specs.Headline.{Completes, AnswersChanges, IsMatchedFromFirst, ChangesHaveEntries}
@@ -71,7 +70,7 @@ past [] i other le = refl
 past (x ∷ xs) zero other le = absurd (omega (arith, le))
 past (x ∷ xs) (suc i) other le = past xs i other (omega (arith, le))
 
-module _ (server : SerialServer) (script : ScriptLines) (run : List Mark) (is : IsDrillScript script) (replied : RepliedInBytes run) (follows : Follows server script run) where
+module _ (server : SerialServer) (script : ScriptLines) (run : List Mark) (is : IsScript script) (replied : RepliedInBytes run) (follows : Follows server script run) where
   abbrev t : Setting
   t = last_setting follows
 

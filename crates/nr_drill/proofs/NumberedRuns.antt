@@ -16,8 +16,7 @@ use Rattle.nr_reduce.specs.SubmitAnswer.{submit_answer_after}
 use Rattle.nr_reduce.proofs.Standing.{received_one}
 use Rattle.nr_texts.specs.declared.opening.Opening.{Opening}
 use Rattle.nr_script.specs.Limits.{lines_max}
-use Rattle.nr_script.specs.Script.{ScriptLines}
-use Rattle.nr_drill.specs.Lines.{IsDrillScript}
+use Rattle.nr_script.specs.Script.{ScriptLines, IsScript}
 use Rattle.nr_drill.specs.Drill.{SerialServer, link_of, Setting, Drill, IsLink, plain_of, journal_of, last_link, setting_now, links_of, start, after_drop, after_grant, after_opening, after_openings, after_leaving}
 use Rattle.nr_drill.specs.Follows.{Follows, setting_of, last_setting, opened_drill}
 use Rattle.nr_drill.specs.InBytes.{RepliedInBytes}
@@ -170,7 +169,7 @@ unfolding opened_drill
 first_journaled server opening = openings_journaled (setting_of server opening) (links_of opening.clients) (start (setting_of server opening) opening.clients) (record { stands = tt; heard = tt })
 
 -- each link of an executed call has been heard by then, and the call has the reply that the journal gives
-pub follows_stands : (server : SerialServer) (script : ScriptLines) (run : List Mark) → IsDrillScript script → RepliedInBytes run → Follows server script run → AtEachMark HeardMark [] run × AtEachMark (StandingMark server) [] run
+pub follows_stands : (server : SerialServer) (script : ScriptLines) (run : List Mark) → IsScript script → RepliedInBytes run → Follows server script run → AtEachMark HeardMark [] run × AtEachMark (StandingMark server) [] run
 follows_stands server script run is replied follows =
     let s = setting_of server script.opening in
     let all = lines_kept s script.opening AnyRaw AnyRaw (JournaledThen s script.opening) (journaled_kept s script.opening) 0 (length script.lines) script.opening.clients script.lines (opened_drill server script.opening)
@@ -180,11 +179,11 @@ follows_stands server script run is replied follows =
     let back = sym follows.marks_are in
     (subst (AtEachMark HeardMark []) back h.heard, subst (AtEachMark (StandingMark server) []) back h.stands)
 
-pub follows_journaled : (server : SerialServer) (script : ScriptLines) (run : List Mark) → IsDrillScript script → RepliedInBytes run → (follows : Follows server script run) → JournaledByNumber (plain_of server) (number_heard run) (journal_of (last_setting follows) run) run
+pub follows_journaled : (server : SerialServer) (script : ScriptLines) (run : List Mark) → IsScript script → RepliedInBytes run → (follows : Follows server script run) → JournaledByNumber (plain_of server) (number_heard run) (journal_of (last_setting follows) run) run
 follows_journaled server script run is replied follows =
     (let h = follows_stands server script run is replied follows in journaled_by_number (last_setting follows) run h.0 h.1)
 
-pub follows_numbers : (server : SerialServer) (script : ScriptLines) (run : List Mark) → IsDrillScript script → RepliedInBytes run → (follows : Follows server script run) → (link : ℕ) → IsLink follows.last link →
+pub follows_numbers : (server : SerialServer) (script : ScriptLines) (run : List Mark) → IsScript script → RepliedInBytes run → (follows : Follows server script run) → (link : ℕ) → IsLink follows.last link →
     number_heard run link ≡ ((last_setting follows).opened link).client.number
 follows_numbers server script run is replied follows link within =
     let h = (lines_hold server script is run replied follows).links link within in

@@ -15,8 +15,7 @@ use Rattle.nr_reduce.proofs.SoFarLaws.{AtEachMark_each}
 use Rattle.nr_reduce.proofs.Standing.{AtEachMark_more}
 use Rattle.nr_laws.specs.Typed.{TypedMark, IsTyped}
 use Rattle.nr_plain.specs.Added.{entries_of_call}
-use Rattle.nr_script.specs.Script.{ScriptLines}
-use Rattle.nr_drill.specs.Lines.{IsDrillScript}
+use Rattle.nr_script.specs.Script.{ScriptLines, IsScript}
 use Rattle.nr_drill.specs.Drill.{SerialServer, link_of, Setting, Drill, IsLink, plain_of, client_of, journal_of}
 use Rattle.nr_drill.specs.Follows.{last_setting}
 use Rattle.nr_drill.specs.Headline.{IsDrillRun}
@@ -135,7 +134,7 @@ numbered_from t count d clients before (mark ∷ run) are order within next late
   numbered_from t count d clients (before ++ mark ∷ []) run are order within.1 next.1 latest.1 enter.1,
 )
 
-pub drill_numbered : (server : SerialServer) (script : ScriptLines) (run : List Mark) → IsDrillScript script → (drill : IsDrillRun server script run) → server.adds ≡ entries_of_call → (clients : List ℕ) →
+pub drill_numbered : (server : SerialServer) (script : ScriptLines) (run : List Mark) → IsScript script → (drill : IsDrillRun server script run) → server.adds ≡ entries_of_call → (clients : List ℕ) →
     AreClients (last_setting drill.follows) drill.follows.last clients → AreNumbered (last_setting drill.follows) clients script.opening.clients run
 drill_numbered server script run is drill adds clients are =
     let replied = typed_replies run drill.typed in
@@ -150,10 +149,10 @@ drill_numbered server script run is drill adds clients are =
     (subst (AtEachMark (HasNextXid t) []) back counts.each) (subst (AtEachMark (IsOfLatest t) []) back counts.latest) (each_enters t adds [] run tt stands.0 stands.1)
 
 -- the last links of as many clients as the script has
-pub drill_links : (server : SerialServer) (script : ScriptLines) (run : List Mark) → IsDrillScript script → (drill : IsDrillRun server script run) → length drill.follows.last.last_links ≡ script.opening.clients
+pub drill_links : (server : SerialServer) (script : ScriptLines) (run : List Mark) → IsScript script → (drill : IsDrillRun server script run) → length drill.follows.last.last_links ≡ script.opening.clients
 drill_links server script run is drill = (lines_hold server script is run (typed_replies run drill.typed) drill.follows).frame.count
 
-pub drill_owned : (server : SerialServer) (script : ScriptLines) (run : List Mark) → IsDrillScript script → (drill : IsDrillRun server script run) → Owned (λ (c : ℕ) (link : ℕ). client_of (last_setting drill.follows) link ≡ c) 1 drill.follows.last.last_links
+pub drill_owned : (server : SerialServer) (script : ScriptLines) (run : List Mark) → IsScript script → (drill : IsDrillRun server script run) → Owned (λ (c : ℕ) (link : ℕ). client_of (last_setting drill.follows) link ≡ c) 1 drill.follows.last.last_links
 drill_owned server script run is drill =
     let held = lines_hold server script is run (typed_replies run drill.typed) drill.follows in
     let d = drill.follows.last in

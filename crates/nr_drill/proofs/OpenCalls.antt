@@ -231,10 +231,10 @@ open_is_awaited s link d knows number xid e = by (answer_of_line s (client_of s 
 
 -- ===== a call that a client was opened with waits, or was accepted
 
-abbrev waits : List WaitingCall → ℕ → Bool
+abbrev pub waits : List WaitingCall → ℕ → Bool
 waits ws xid = list_any (λ (w : WaitingCall). eqb w.xid xid) ws
 
-abbrev accepts : List AcceptedCall → ℕ → Bool
+abbrev pub accepts : List AcceptedCall → ℕ → Bool
 accepts calls xid = list_any (λ (a : AcceptedCall). eqb a.xid xid) calls
 
 abbrev submits_xid : ℕ → RunEvent → Bool
@@ -340,7 +340,7 @@ submitted_accepted link xid run (marks.Revoke l x bytes) = submits_if xid _ (Mem
 submitted_accepted link xid run (marks.Drop l) = refl
 submitted_accepted link xid run (marks.Told l what) = submits_if xid _ (ServerTold what ∷ []) refl
 
-abbrev IsWaitingOrAccepted : LinkParameters → ℕ → List Mark → ℕ → Type 0
+abbrev pub IsWaitingOrAccepted : LinkParameters → ℕ → List Mark → ℕ → Type 0
 IsWaitingOrAccepted o link run xid = (accepts (accepted_calls link run) xid || waits (client o link run).state.waiting xid) ≡ true
 
 stays_one : (o : LinkParameters) (link : ℕ) (run : List Mark) (mark : Mark) (xid : ℕ) → IsWaitingOrAccepted o link run xid → IsWaitingOrAccepted o link (run ++ mark ∷ []) xid
@@ -387,7 +387,7 @@ unfolding client events accepted_calls
 first_waits o link xid h = resumed_waits o.first_stag o.resumed xid h
 
 -- so each call of the client waits, or was accepted
-waits_or_accepted : (o : LinkParameters) (link : ℕ) (run : List Mark) (xid : ℕ) → HasCall o link run xid → IsWaitingOrAccepted o link run xid
+pub waits_or_accepted : (o : LinkParameters) (link : ℕ) (run : List Mark) (xid : ℕ) → HasCall o link run xid → IsWaitingOrAccepted o link run xid
 waits_or_accepted o link run xid h = by (Contains-append_cases (map as_accepted o.resumed) (accepted_calls link run) h.0 h.1)
   where
     own : eqb h.0.xid xid ≡ true
@@ -417,7 +417,7 @@ came_before n xid (c ∷ cs) h e = by (eqb c.xid xid) refl e (came_before n xid 
     by true is e later = (let same = eqb-true c.xid xid is in let low = h.0 in omega (arith, same, low))
     by false is e later = later e
 
-found : {X : Type 0} (p : X → Bool) (xs : List X) → list_any p xs ≡ true → (x : X) × Contains xs x × (p x ≡ true)
+pub found : {X : Type 0} (p : X → Bool) (xs : List X) → list_any p xs ≡ true → (x : X) × Contains xs x × (p x ≡ true)
 found p [] e = absurd cc
 found {X = X} p (x ∷ xs) e = by (p x) refl e (found p xs)
   where

@@ -14,8 +14,7 @@ use Rattle.nr_laws.specs.OnceEach.{BegunLink, GoesOn, IsEarlier, IsLinkOf}
 use Rattle.nr_laws.proofs.EarlierLinks.{LinkKeeps, each_earlier, xid_below}
 use Rattle.nr_laws.proofs.ExecutedPayloads.{executes_have_plans}
 use Rattle.nr_laws.proofs.PlacesByNumber.{places_follow_by_number}
-use Rattle.nr_script.specs.Script.{ScriptLines}
-use Rattle.nr_drill.specs.Lines.{IsDrillScript}
+use Rattle.nr_script.specs.Script.{ScriptLines, IsScript}
 use Rattle.nr_drill.specs.Drill.{SerialServer, Setting, IsLink, client_of, journal_of}
 use Rattle.nr_drill.specs.Follows.{Follows, last_setting}
 use Rattle.nr_drill.specs.Headline.{IsMatchedFromFirst, PlacesRise}
@@ -31,7 +30,7 @@ not_below a b e = by (le_or b a)
     by (inl le) = le
     by (inr lt) = absurd (let yes = sym (lt-ltb a b lt) ∙ e in cc)
 
-module _ (server : SerialServer) (script : ScriptLines) (run : List Mark) (is : IsDrillScript script) (replied : RepliedInBytes run) (follows : Follows server script run) where
+module _ (server : SerialServer) (script : ScriptLines) (run : List Mark) (is : IsScript script) (replied : RepliedInBytes run) (follows : Follows server script run) where
   abbrev t : Setting
   t = last_setting follows
 

@@ -5,10 +5,10 @@ use Rattle.std.proofs.Common.{◌≡◌, ℕ, Bool, true, false, List, [], ◌�
 use Rattle.nr_reduce.specs.declared.mark.Mark.{Mark}
 use Rattle.nr_script.specs.declared.script.Line.{Line}
 use Rattle.nr_script.specs.declared.script.Line.TheVariants as lines
-use Rattle.nr_script.specs.Script.{ScriptLines}
+use Rattle.nr_script.specs.Script.{ScriptLines, IsScript}
 use Rattle.nr_drill.specs.Drill.{SerialServer, Setting, Drill, setting_now}
 use Rattle.nr_drill.specs.Follows.{after_line, Drains, Makes, MakeAll, Follows, setting_of, opened_drill}
-use Rattle.nr_drill.specs.Lines.{is_raw_of, HasNoRaw, IsClient, IsDrillScript}
+use Rattle.nr_drill.specs.Lines.{is_raw_of, HasNoRaw, IsClient}
 use Rattle.nr_drill.specs.DrillSetup.{drill_setup, server_of}
 use Rattle.nr_drill.specs.Laws.{PlainDrainsEnd, ScriptsHaveRuns, DrillsHaveRuns}
 use Rattle.nr_drill.specs.Drains.{AnswersInBytes, AnswersCalls}
@@ -38,7 +38,7 @@ none_before : (script : ScriptLines) (before after : List Line) → script.lines
     (client : ℕ) → IsClient script client → HasNoRaw before client
 none_before script before after cut raw client within = any_front (is_raw_of client) before after (subst (λ (all : List Line). list_any (is_raw_of client) all ≡ false) cut (raw client within))
 
-rest_made : (server : SerialServer) (script : ScriptLines) → IsDrillScript script → (script.opening.numbered ≡ true → KeepsCalls server.reply_to server.adds) → ((client : ℕ) → IsClient script client → HasNoRaw script.lines client) →
+rest_made : (server : SerialServer) (script : ScriptLines) → IsScript script → (script.opening.numbered ≡ true → KeepsCalls server.reply_to server.adds) → ((client : ℕ) → IsClient script client → HasNoRaw script.lines client) →
     AnswersInBytes (setting_of server script.opening) → AnswersCalls (setting_of server script.opening) →
     (after before : List Line) → script.lines ≡ before ++ after → (mid : Drill) →
     MakeAll (setting_of server script.opening) script.opening.clients before (opened_drill server script.opening) mid →
@@ -53,7 +53,7 @@ rest_made server script is keeps raw replies answers (line ∷ after) before cut
     (rest.0, (next.0, next.1, rest.1))
 
 -- if the server has a reply to each call that waits, and replies in bytes
-some_run : (server : SerialServer) (script : ScriptLines) → IsDrillScript script → (script.opening.numbered ≡ true → KeepsCalls server.reply_to server.adds) → ((client : ℕ) → IsClient script client → HasNoRaw script.lines client) →
+some_run : (server : SerialServer) (script : ScriptLines) → IsScript script → (script.opening.numbered ≡ true → KeepsCalls server.reply_to server.adds) → ((client : ℕ) → IsClient script client → HasNoRaw script.lines client) →
     AnswersInBytes (setting_of server script.opening) → AnswersCalls (setting_of server script.opening) → (run : List Mark) × Follows server script run
 some_run server script is keeps raw replies answers =
     let all = rest_made server script is keeps raw replies answers script.lines [] refl (opened_drill server script.opening) refl in

@@ -22,8 +22,7 @@ use Rattle.nr_laws.specs.Completion.{NothingInTransit, HaveCompleted}
 use Rattle.nr_laws.specs.Stays.{HasNoRevoke, AreConveyedOrRefused}
 use Rattle.nr_laws.proofs.NeitherEnds.{links_stay, matched_calls_complete}
 use Rattle.nr_laws.proofs.ReopenedLinks.{reopened_links_agree}
-use Rattle.nr_script.specs.Script.{ScriptLines}
-use Rattle.nr_drill.specs.Lines.{IsDrillScript}
+use Rattle.nr_script.specs.Script.{ScriptLines, IsScript}
 use Rattle.nr_drill.specs.Drill.{SerialServer, Setting, IsLink, plain_of}
 use Rattle.nr_drill.specs.Follows.{Follows, last_setting}
 use Rattle.nr_drill.specs.Headline.{IsMatchedFromFirst}
@@ -37,7 +36,7 @@ use Rattle.nr_drill.proofs.NumberedDrills.{held, order, wrote, outside, typed, f
 agrees_first : (opened : LinkParameters) → opened.agreed ≡ None → AgreesAgain opened
 agrees_first opened none = ap (λ (a : Option Agreement). has_same_sizes a (agreement (client_private opened) (responder_private opened.server (client_private opened)))) none
 
-module _ (server : SerialServer) (script : ScriptLines) (run : List Mark) (is : IsDrillScript script) (replied : RepliedInBytes run) (follows : Follows server script run) where
+module _ (server : SerialServer) (script : ScriptLines) (run : List Mark) (is : IsScript script) (replied : RepliedInBytes run) (follows : Follows server script run) where
   abbrev t : Setting
   t = last_setting follows
 

@@ -50,8 +50,8 @@ pub record IsDrainStep (server : SerialServer) (script : ScriptLines) (link : �
 abbrev pub setting_then : {server : SerialServer} {script : ScriptLines} {link : ℕ} {step : DrainStep} {d : Drill} → IsDrainStep server script link step d → Setting
 setting_then {server = server} {script = script} x = setting_now (setting_of server script.opening) x.old
 
--- Each step of the link in a drain of the script leaves less work, if it moves something, and no line before the drain puts bytes into the pipes
--- of its client's links.
+-- Each step of the link in a drain of the script leaves less work, if it moves something, and no line before the drain is a `raw` line of the link's
+-- client.
 abbrev pub DrainStepsLeaveLess : SerialServer → ScriptLines → ℕ → Type 0
 DrainStepsLeaveLess server script link = (step : DrainStep) (d : Drill) → (x : IsDrainStep server script link step d) → HasNoRaw x.before (client_of (setting_then x) link) → Moves (setting_then x) link step d →
     IsLess (work_left (setting_then x) (after_step (setting_then x) link step d) link) (work_left (setting_then x) d link)

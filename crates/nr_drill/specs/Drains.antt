@@ -15,10 +15,10 @@ use Rattle.nr_reduce.specs.Matched.{Matched}
 use Rattle.nr_laws.specs.Grant.{AcceptsByRule}
 use Rattle.nr_laws.specs.Typed.{IsTypedCall, IsTyped}
 use Rattle.nr_script.specs.declared.script.Line.{Line}
-use Rattle.nr_script.specs.Script.{ScriptLines}
+use Rattle.nr_script.specs.Script.{ScriptLines, IsScript}
 use Rattle.nr_drill.specs.Drill.{SerialServer, Setting, Drill, GivenReply, now, waiting_call, reply_given, journal_of, pipes_of, empty_pipes, setting_now}
 use Rattle.nr_drill.specs.Follows.{Drains, MakeAll, setting_of, opened_drill}
-use Rattle.nr_drill.specs.Lines.{IsClient, HasNoRaw, IsDrillScript}
+use Rattle.nr_drill.specs.Lines.{IsClient, HasNoRaw}
 use Rattle.nr_drill.specs.InBytes.{ExecutedInBytes}
 use Rattle.nr_drill.specs.WorkLeft.{DrainStep, after_step, work_left, IsLess}
 use Rattle.nr_drill.specs.DrainSteps.{Moves}
@@ -71,10 +71,10 @@ IsTypedAgain r = IsBytes (call_payload r.xid r.call) × HasWordPosition r.form �
 abbrev pub StepsKeepTypes : Type 0
 StepsKeepTypes = (s : Setting) (link : ℕ) (step : DrainStep) (d : Drill) → IsOpened (s.opened link) → AllByRecursion IsTypedAgain (s.opened link).resumed → IsRunning s link d → AnswersInBytesAt s link d → IsTyped d.marks → IsTyped (after_step s link step d).marks
 
--- After any of the first lines of a script, if none of these puts bytes into pipes, a drain ends: after a number of rounds nothing moves on any link.
+-- After any of the first lines of a script, if none of these is a `raw` line, a drain ends: after a number of rounds nothing moves on any link.
 -- A server of clients that have numbers has to keep enough of each call, so that a call that is sent again has a reply.
 abbrev pub DrainsEnd : Type 0
-DrainsEnd = (server : SerialServer) (script : ScriptLines) → IsDrillScript script → (script.opening.numbered ≡ true → KeepsCalls server.reply_to server.adds) →
+DrainsEnd = (server : SerialServer) (script : ScriptLines) → IsScript script → (script.opening.numbered ≡ true → KeepsCalls server.reply_to server.adds) →
     AnswersInBytes (setting_of server script.opening) → AnswersCalls (setting_of server script.opening) →
     (before after : List Line) → script.lines ≡ before ++ after → ((client : ℕ) → IsClient script client → HasNoRaw before client) → (mid : Drill) →
     MakeAll (setting_of server script.opening) script.opening.clients before (opened_drill server script.opening) mid →

@@ -1,5 +1,6 @@
 -- What a drill promises: its run follows the script, both ends of each link keep their laws, and what these mean to callers.
-use Rattle.std.specs.Prelude.{◌≡◌, ◌≢◌, ℕ, ◌≤◌, false, List, [], ◌∷◌, ◌++◌, None, Some, ◌↔◌}
+use Rattle.std.specs.Prelude.{◌≡◌, ◌≢◌, ℕ, ◌≤◌, true, false, List, [], ◌∷◌, ◌++◌, None, Some, ◌↔◌, Contains}
+use Rattle.std.specs.List.{flat_map, list_any}
 use Rattle.nr_wire.specs.declared.hello.Side.TheVariants.{Initiator, Responder}
 use Rattle.nr_reduce.specs.declared.call.Call.{Call}
 use Rattle.nr_reduce.specs.declared.call.Form.{Form}
@@ -36,7 +37,7 @@ use Rattle.nr_laws.specs.Stays.{HasNoRevoke, AreConveyedOrRefused}
 use Rattle.nr_drill.specs.declared.report.Report.{Report}
 use Rattle.nr_drill.specs.declared.report.LinkLog.{LinkLog}
 use Rattle.nr_script.specs.Script.{ScriptLines}
-use Rattle.nr_drill.specs.Drill.{SerialServer, Setting, IsLink, plain_of, client_of, is_sent_again, journal_of}
+use Rattle.nr_drill.specs.Drill.{SerialServer, Setting, IsLink, plain_of, client_of, answer_at, settles, is_sent_again, journal_of}
 use Rattle.nr_drill.specs.Follows.{Follows, HasRawLine, last_setting}
 use Rattle.nr_drill.specs.Lines.{HasNoRaw, EndsWithDrain}
 use Rattle.nr_drill.specs.Memory.{KeepsMemory}
@@ -46,7 +47,7 @@ use Rattle.nr_drill.specs.Reports.{call_reports, link_reports}
 -- ===== one link
 
 -- Whatever the script, hostile bytes too: both ends keep their laws in full; each call is accepted by the client's rule, so within the grant;
--- each outcome that is due has been handed over; and if no line puts bytes into the pipes of its client's links, or none into its own, each side
+-- each outcome that is due has been handed over; and if no line is a `raw` line of its client, or none puts bytes into its own pipes, each side
 -- receives what the other sent.
 pub record KeepsLaws (server : SerialServer) (script : ScriptLines) (opened : LinkParameters) (client link : ℕ) (run : List Mark) : Type 0 where
   pub asked : Asked opened link run
@@ -72,12 +73,14 @@ abbrev pub AnswersChanges : SerialServer → LinkParameters → ℕ → List Mar
 AnswersChanges server opened link run = (before : List Mark) (xid : ℕ) (moment : Moment) (payload : List ℕ) (place : ℕ) (reply : List ℕ) →
     MarkAt run before (marks.Execute link xid moment payload place reply) → server.adds moment payload reply ≢ [] → IsAnswered opened link before xid moment payload place reply
 
--- neither side ends, and after a last drain all calls have completed, each that wasn't given up with its Done
-pub record Stays (script : ScriptLines) (opened : LinkParameters) (client link : ℕ) (run : List Mark) : Type 0 where
-  pub client_stays : end_of_side opened link Initiator run ≡ None
-  pub server_stays : end_of_side opened link Responder run ≡ None
-  pub complete : EndsWithDrain script client → NothingInTransit opened link run × HaveCompleted opened link run
+-- Neither side ends, and after a last drain all calls have completed, each that wasn't given up with its Done. And of each call line of the client that
+-- was accepted, on whichever of its links, the outcome has been handed over on one of them, or it was given up.
+pub record Stays (s : Setting) (script : ScriptLines) (client link : ℕ) (run : List Mark) : Type 0 where
+  pub client_stays : end_of_side (s.opened link) link Initiator run ≡ None
+  pub server_stays : end_of_side (s.opened link) link Responder run ≡ None
+  pub complete : EndsWithDrain script client → NothingInTransit (s.opened link) link run × HaveCompleted (s.opened link) link run
   pub done : EndsWithDrain script client → (a : AcceptedCall) → IsAwaitedStill link run a → HasOutcome (completed_calls link run) a.xid
+  pub settled : EndsWithDrain script client → (xid : ℕ) → Contains (flat_map (answer_at s client) run) (submissions.Accepted xid) → list_any (settles s client xid) run ≡ true
 
 -- ===== the run
 
@@ -124,7 +127,7 @@ pub record IsDrillRun (server : SerialServer) (script : ScriptLines) (run : List
   pub entries : (link : ℕ) → IsLink follows.last link → ((last_setting follows).opened link).client.number ≢ 0 → IsMatchedFromFirst (last_setting follows) run link →
       ChangesHaveEntries server (journal_of (last_setting follows) run) (last_setting follows).opened link run
   pub staying : (link : ℕ) → IsLink follows.last link → IsMatchedFromFirst (last_setting follows) run link → is_dropped link run ≡ false → HasNoRevoke link run →
-      AreConveyedOrRefused ((last_setting follows).opened link) link run → Stays script ((last_setting follows).opened link) (client_of (last_setting follows) link) link run
+      AreConveyedOrRefused ((last_setting follows).opened link) link run → Stays (last_setting follows) script (client_of (last_setting follows) link) link run
   pub drains : (link : ℕ) → IsLink follows.last link → DrainStepsLeaveLess server script link
 
 -- ===== the report

@@ -6,13 +6,13 @@ use Rattle.nr_tree.specs.Drill.{IsDrill}
 use Rattle.nr_reduce.specs.declared.mark.Mark.{Mark}
 use Rattle.nr_texts.specs.declared.opening.Opening.{Opening}
 use Rattle.nr_script.specs.declared.script.Line.{Line}
-use Rattle.nr_script.specs.Script.{ScriptLines}
+use Rattle.nr_script.specs.Script.{ScriptLines, IsScript}
 use Rattle.nr_drill.specs.declared.report.Report.{Report}
 use Rattle.nr_drill.specs.Drill.{SerialServer, Setting, Drill, setting_now}
 use Rattle.nr_drill.specs.Follows.{Drains, MakeAll, Follows, setting_of, last_setting, opened_drill}
 use Rattle.nr_drill.specs.Drains.{AnswersCalls, AnswersInBytes}
 use Rattle.nr_drill.specs.Headline.{IsDrillRun, Reports}
-use Rattle.nr_drill.specs.Lines.{IsClient, HasNoRaw, IsDrillScript}
+use Rattle.nr_drill.specs.Lines.{IsClient, HasNoRaw}
 use Rattle.nr_byte_laws.specs.InBytes.{IsInBytes}
 use Rattle.nr_drill.specs.InBytes.{RepliedInBytes}
 use Rattle.nr_drill.specs.DrillSetup.{drill_setup, server_of}
@@ -20,7 +20,7 @@ use Rattle.nr_drill.specs.Shown.{shown, text_of, summary, sums_of}
 
 -- marks that a script makes, over a sane first tree, each of whose replies is bytes, are the run of a drill
 abbrev pub DrillsAreRuns : Type 0
-DrillsAreRuns = (tree : Tree) (script : ScriptLines) (run : List Mark) → IsSane tree → IsDrillScript script → RepliedInBytes run → Follows (server_of (drill_setup tree script.opening)) script run →
+DrillsAreRuns = (tree : Tree) (script : ScriptLines) (run : List Mark) → IsSane tree → IsScript script → RepliedInBytes run → Follows (server_of (drill_setup tree script.opening)) script run →
     IsDrillRun (server_of (drill_setup tree script.opening)) script run
 
 -- two runs of a script are the same
@@ -44,23 +44,23 @@ DrillTreesAreInBytes = (tree : Tree) → IsDrill tree → IsInBytes tree
 
 -- over a tree in bytes each reply of a run is bytes
 abbrev pub PlainRunsReplyInBytes : Type 0
-PlainRunsReplyInBytes = (tree : Tree) (script : ScriptLines) (run : List Mark) → IsInBytes tree → IsDrillScript script → Follows (server_of (drill_setup tree script.opening)) script run → RepliedInBytes run
+PlainRunsReplyInBytes = (tree : Tree) (script : ScriptLines) (run : List Mark) → IsInBytes tree → IsScript script → Follows (server_of (drill_setup tree script.opening)) script run → RepliedInBytes run
 
--- Over a tree in bytes a drain ends after any of the first lines of a script, if none of these puts bytes into pipes.
+-- Over a tree in bytes a drain ends after any of the first lines of a script, if none of these is a `raw` line.
 abbrev pub PlainDrainsEnd : Type 0
-PlainDrainsEnd = (tree : Tree) (script : ScriptLines) → IsInBytes tree → IsDrillScript script →
+PlainDrainsEnd = (tree : Tree) (script : ScriptLines) → IsInBytes tree → IsScript script →
     (before after : List Line) → script.lines ≡ before ++ after → ((client : ℕ) → IsClient script client → HasNoRaw before client) → (mid : Drill) →
     MakeAll (setting_of (server_of (drill_setup tree script.opening)) script.opening) script.opening.clients before (opened_drill (server_of (drill_setup tree script.opening)) script.opening) mid →
     (rounds : ℕ) × (new : Drill) × Drains (setting_now (setting_of (server_of (drill_setup tree script.opening)) script.opening) mid) mid.last_links rounds mid new
 
 -- so such a script has a run
 abbrev pub ScriptsHaveRuns : Type 0
-ScriptsHaveRuns = (tree : Tree) (script : ScriptLines) → IsInBytes tree → IsDrillScript script → ((client : ℕ) → IsClient script client → HasNoRaw script.lines client) →
+ScriptsHaveRuns = (tree : Tree) (script : ScriptLines) → IsInBytes tree → IsScript script → ((client : ℕ) → IsClient script client → HasNoRaw script.lines client) →
     (run : List Mark) × Follows (server_of (drill_setup tree script.opening)) script run
 
 -- and over the first tree of a drill it has one, which is that of a drill
 abbrev pub DrillsHaveRuns : Type 0
-DrillsHaveRuns = (tree : Tree) (script : ScriptLines) → IsDrill tree → IsDrillScript script → ((client : ℕ) → IsClient script client → HasNoRaw script.lines client) →
+DrillsHaveRuns = (tree : Tree) (script : ScriptLines) → IsDrill tree → IsScript script → ((client : ℕ) → IsClient script client → HasNoRaw script.lines client) →
     (run : List Mark) × IsDrillRun (server_of (drill_setup tree script.opening)) script run
 
 -- what is printed of a run, and its sums, by its report

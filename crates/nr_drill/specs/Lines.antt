@@ -1,19 +1,15 @@
--- The scripts of drills, and what lines do on the links of a client.
-use Rattle.std.specs.Prelude.{◌≡◌, ℕ, ◌≤◌, Bool, true, false, ◌==◌, List, [], ◌∷◌, ◌++◌, length}
-use Rattle.std.specs.List.{list_any, AllByRecursion}
-use Rattle.nr_wire.specs.Constants.{UNITS_MAX}
-use Rattle.nr_reduce.specs.Limits.{credits_max}
-use Rattle.nr_texts.specs.Limits.{clients_max, capacity_max}
-use Rattle.nr_script.specs.Limits.{lines_max}
+-- What lines of a script do on the links of a client.
+use Rattle.std.specs.Prelude.{◌≡◌, ℕ, ◌≤◌, Bool, true, false, ◌==◌, List, ◌∷◌, ◌++◌}
+use Rattle.std.specs.List.{list_any}
 use Rattle.nr_script.specs.declared.script.Line.{Line}
 use Rattle.nr_script.specs.declared.script.Line.TheVariants as lines
-use Rattle.nr_script.specs.Script.{ScriptLines, FollowOn, HasWritableCred, IsTypedLine}
+use Rattle.nr_script.specs.Script.{ScriptLines}
 
 abbrev pub is_raw_of : (client : ℕ) → Line → Bool
 is_raw_of client (lines.Raw c side bytes) = c == client
 is_raw_of client line = false
 
--- none of these lines puts bytes into the pipes of a client's links
+-- none of these lines is a `raw` line of this client
 abbrev pub HasNoRaw : List Line → (client : ℕ) → Type 0
 HasNoRaw all client = list_any (is_raw_of client) all ≡ false
 
@@ -39,22 +35,6 @@ pub record EndsWithDrain (script : ScriptLines) (client : ℕ) : Type 0 where
   pub after : List Line
   pub is_cut : script.lines ≡ before ++ lines.Drain ∷ after
   pub none_after : list_any (acts_on client) after ≡ false
-
--- A script of a drill: as `IsScript` of nr_script says it, but its clients may have numbers. Such clients may begin further links (`rejoin`).
-pub record IsDrillScript (script : ScriptLines) : Type 0 where
-  pub some_clients : 1 ≤ script.opening.clients
-  pub few_clients : script.opening.clients ≤ clients_max
-  pub some_credits : 1 ≤ script.opening.credits
-  pub few_credits : script.opening.credits ≤ credits_max
-  pub capacity : script.opening.capacity ≤ capacity_max
-  pub some_client_units : 1 ≤ script.opening.client_units
-  pub few_client_units : script.opening.client_units ≤ UNITS_MAX
-  pub some_server_units : 1 ≤ script.opening.server_units
-  pub few_server_units : script.opening.server_units ≤ UNITS_MAX
-  pub few_lines : length script.lines ≤ lines_max
-  pub follow_on : FollowOn script.opening [] script.lines
-  pub creds : AllByRecursion HasWritableCred script.lines
-  pub typed : AllByRecursion IsTypedLine script.lines
 
 abbrev pub IsClient : ScriptLines → ℕ → Type 0
 IsClient script client = (1 ≤ client) × (client ≤ script.opening.clients)

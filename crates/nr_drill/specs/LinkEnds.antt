@@ -5,8 +5,7 @@ use Rattle.nr_reduce.specs.declared.mark.Mark.{Mark}
 use Rattle.nr_reduce.specs.History.{is_dropped}
 use Rattle.nr_reduce.specs.Run.{end_of_side}
 use Rattle.nr_plain.specs.Added.{entries_of_call}
-use Rattle.nr_script.specs.Script.{ScriptLines}
-use Rattle.nr_drill.specs.Lines.{IsDrillScript}
+use Rattle.nr_script.specs.Script.{ScriptLines, IsScript}
 use Rattle.nr_drill.specs.declared.report.LinkEnds.{LinkEnds}
 use Rattle.nr_drill.specs.declared.report.Report.{Report}
 use Rattle.nr_drill.specs.Drill.{SerialServer, Setting, Drill, client_of, links_of}
@@ -31,5 +30,5 @@ AreClients s last clients = clients ≡ map (client_of s) (links_of (length last
 -- Whatever the script, and whatever the server replies: if it adds to the journal what a plain server adds, and if the marks are the run of a drill
 -- whose links are of these clients, and whose clients' last links came to these ends, then the report is that of the run.
 abbrev pub ReportsRuns : List Mark → List ℕ → List LinkEnds → Report → Type 0
-ReportsRuns run clients ends report = (server : SerialServer) (script : ScriptLines) → IsDrillScript script → (drill : IsDrillRun server script run) → server.adds ≡ entries_of_call →
+ReportsRuns run clients ends report = (server : SerialServer) (script : ScriptLines) → IsScript script → (drill : IsDrillRun server script run) → server.adds ≡ entries_of_call →
     AreClients (last_setting drill.follows) drill.follows.last clients → AreEnds (last_setting drill.follows) drill.follows.last.last_links run ends → Reports server script report

@@ -11,7 +11,7 @@ pub fn drill_is_run()
     ensures { DrillsAreRuns }
 {}
 
-/// A script has one run at most. With the plain server of a drill a script that puts no bytes into pipes has one, and it is that of a drill.
+/// A script has one run at most. With the plain server of a drill a script without `raw` lines has one, and it is that of a drill.
 pub fn runs()
     ensures one { OneRun }
     // Over any first tree in bytes.
@@ -24,8 +24,8 @@ pub fn runs()
     ensures bytes { PlainRunsReplyInBytes }
 {}
 
-/// On a link that runs each step of a drain that moves something leaves less work, so a drain of a script that puts no bytes into
-/// pipes ends.
+/// On a link that runs each step of a drain that moves something leaves less work, so a drain of a script without `raw` lines
+/// ends.
 pub fn drains_end()
     ensures steps { StepsLeaveLess }
     // A step keeps the types of marks, if the server replies in bytes.

@@ -103,6 +103,8 @@ module _ {O C : Type 0} where
     no_outcome call_ends.LinkRead made = makes (Err call_ends.LinkRead) made
     no_outcome call_ends.LinkWrite made = makes (Err call_ends.LinkWrite) made
     no_outcome call_ends.Closed made = makes (Err call_ends.Closed) made
+    no_outcome (call_ends.Tries n) made = makes (Err (call_ends.Tries n)) made
+    no_outcome call_ends.DialFault made = makes (Err call_ends.DialFault) made
     no_outcome (call_ends.Spent left need) made = makes (Err (call_ends.Spent left need)) made
     no_outcome (call_ends.TooLarge need room) made = makes (Err (call_ends.TooLarge need room)) made
     no_outcome (call_ends.Budget read) made = makes (Err (call_ends.Budget read)) made
@@ -114,11 +116,13 @@ module _ {O C : Type 0} where
   remote_made call_ends.LinkRead p q bytes made = made
   remote_made call_ends.LinkWrite p q bytes made = made
   remote_made call_ends.Closed p q bytes made = made
+  remote_made (call_ends.Tries n) p q bytes made = made
+  remote_made call_ends.DialFault p q bytes made = made
   remote_made (call_ends.Spent left need) p q bytes made = made
   remote_made (call_ends.TooLarge need room) p q bytes made = made
   remote_made (call_ends.Budget read) p q bytes made = made
 
 -- a pass that is so of a shared requester, under other names of both
-pub rests_with : {I O C : Type 0} (r r' : SharedRequester I O C) (p p' : SharedPass I O C) → r' ≡ r → p ≡ p' → SharedRests r' p' → SharedRests r p
-rests_with {I} {O} {C} r r' p p' remote_is pass_is rests =
-    subst (λ (x : SharedRequester I O C). SharedRests x p) remote_is (subst (λ (x : SharedPass I O C). SharedRests r' x) (sym pass_is) rests)
+pub rests_with : {I O C D : Type 0} (r r' : SharedRequester I O C D) (p p' : SharedPass I O C D) → r' ≡ r → p ≡ p' → SharedRests r' p' → SharedRests r p
+rests_with {I} {O} {C} {D} r r' p p' remote_is pass_is rests =
+    subst (λ (x : SharedRequester I O C D). SharedRests x p) remote_is (subst (λ (x : SharedPass I O C D). SharedRests r' x) (sym pass_is) rests)

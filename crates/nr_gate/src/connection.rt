@@ -9,6 +9,7 @@ ghost use Rattle.nr_gate.specs.private.Forwarded.{gate_end};
 
 use crate::forwarding::ForwardedCalls;
 use crate::gate_end::GateEnd;
+use nr_links::{LinkSink, LinkSource};
 use nr_outside::{Sink, Source};
 use nr_record_loop::{LoopEnd, serve_calls};
 use nr_shared::{AnyCall, Pass, SharedRequester};
@@ -35,7 +36,7 @@ fn end_of(end: LoopEnd, ended: Option<GateEnd>) -> GateEnd
 }
 
 /// Serves one connection to its end, whose calls are forwarded.
-fn serve_forwarded<R: Wait, I: Source, O: Sink, J: Source, K: Sink>(
+fn serve_forwarded<R: Wait, I: Source, O: Sink, J: LinkSource + Drop, K: LinkSink + Drop>(
     answers: &mut ForwardedCalls<'_, J, K, R>,
     alloc: Global,
     source: &mut I,
@@ -59,7 +60,7 @@ fn serve_forwarded<R: Wait, I: Source, O: Sink, J: Source, K: Sink>(
 /// shared requester, and writes the reply as a record, with the xid of the client's call, before the next one is forwarded.
 /// A call of a version of RPC other than 2 is answered at once. It reads no more after a failed write, nor after a call
 /// that has no reply.
-pub fn gate_connection<R: Wait, I: Source, O: Sink, J: Source, K: Sink>(
+pub fn gate_connection<R: Wait, I: Source, O: Sink, J: LinkSource + Drop, K: LinkSink + Drop>(
     rt: &R,
     alloc: Global,
     source: &mut I,

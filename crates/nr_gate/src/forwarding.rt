@@ -12,7 +12,7 @@ ghost use Rattle.nr_gate.specs.private.Forwarded.{FailsSo, HasNone, RepliesWith,
 
 use crate::asking::{RecordCall, read_record};
 use crate::gate_end::GateEnd;
-use nr_outside::{Sink, Source};
+use nr_links::{LinkSink, LinkSource};
 use nr_record_loop::{Answers, NoReply};
 use nr_reduce::{Call, Form, Outcome};
 use nr_requester::Done;
@@ -39,14 +39,15 @@ pub(crate) enum Failure {
 
 /// The shared requester, with the pass of a connection and the end that the last remote call made.
 #[derive(Drop)]
-pub(crate) struct ForwardedCalls<'a, I: Source, O: Sink, R> {
+pub(crate) struct ForwardedCalls<'a, I: LinkSource + Drop, O: LinkSink + Drop, R> {
     pub(crate) rt: &'a R,
     pub(crate) remote: &'a SharedRequester<I, O, AnyCall>,
     pub(crate) pass: &'a mut Pass<I, O, AnyCall>,
     pub(crate) ended: Option<GateEnd>,
 }
 
-impl<'a, I: Source, O: Sink, R: Wait> Answers for ForwardedCalls<'a, I, O, R> {
+impl<'a, I: LinkSource + Drop, O: LinkSink + Drop, R: Wait> Answers
+    for ForwardedCalls<'a, I, O, R> {
     ghost did = { λ p q xs more. Gates (kept_end q.ended) p.pass.now.main q.pass.now.main xs more };
 
     ghost rests = { λ p. SharedRests p.remote.now p.pass.now };
@@ -144,7 +145,7 @@ fn reply_of(alloc: Global, done: Done, xid: u32) -> Result<Octets, Failure>
 }
 
 /// Forwards a call of RPC version 2, and waits for its reply, which gets this xid.
-fn forward<I: Source, O: Sink, R: Wait>(
+fn forward<I: LinkSource + Drop, O: LinkSink + Drop, R: Wait>(
     rt: &R,
     alloc: Global,
     remote: &SharedRequester<I, O, AnyCall>,

@@ -12,14 +12,13 @@ use crate::job::{GateCarried, GateJob};
 use crate::remote_caller::RemoteCaller;
 use nr_jobs::Job;
 use nr_links::{LinkSink, LinkSource};
-use nr_outside::{Sink, Source};
 use nr_shared::{AnyCall, Pass, SharedRequester};
 use std::alloc::{AllocError, Global};
 use std::sync::{Arc, Wait};
 
 /// The shared requester, with the pass of a caller.
 #[derive(Drop)]
-pub(crate) struct GatedLinks<'a, 'b, J: Source, K: Sink, R> {
+pub(crate) struct GatedLinks<'a, 'b, J: LinkSource + Drop, K: LinkSink + Drop, R> {
     pub(crate) rt: &'a R,
     pub(crate) alloc: Global,
     pub(crate) remote: &'a Arc<SharedRequester<J, K, AnyCall>, Global>,
@@ -29,8 +28,8 @@ pub(crate) struct GatedLinks<'a, 'b, J: Source, K: Sink, R> {
 impl<
     'a,
     'b,
-    J: Source + Drop + Send + 'static,
-    K: Sink + Drop + Send + 'static,
+    J: LinkSource + Drop + Send + 'static,
+    K: LinkSink + Drop + Send + 'static,
     R: Wait + Copy + Drop + Send + 'static,
 > GatedLinks<'a, 'b, J, K, R> {
     /// The share of the shared requester that the next job takes, or out of memory.

@@ -14,7 +14,7 @@ use crate::job::GateJob;
 use crate::taking::take_gated;
 use nr_accept::ServeFault;
 use nr_jobs::Spawner;
-use nr_links::Acceptor;
+use nr_links::{Acceptor, LinkSink, LinkSource};
 use nr_outside::{Sink, Source};
 use nr_reduce::Sequence;
 use nr_shared::{AnyCall, Pass, SharedRequester};
@@ -37,8 +37,8 @@ pub struct Gated {
 /// Serves links by these jobs, and waits until all have ended.
 fn gate_links<
     A: Acceptor,
-    J: Source + Drop + Send + 'static,
-    K: Sink + Drop + Send + 'static,
+    J: LinkSource + Drop + Send + 'static,
+    K: LinkSink + Drop + Send + 'static,
     P: Spawner<GateJob<A::Source, A::Sink, J, K, R>>,
     R: Threads + Wait + Copy + Drop + Send + 'static,
 >(
@@ -104,8 +104,8 @@ where
 /// no memory for another link or its end. What was served until then stays.
 pub fn gate<
     A: Acceptor,
-    J: Source + Drop + Send + 'static,
-    K: Sink + Drop + Send + 'static,
+    J: LinkSource + Drop + Send + 'static,
+    K: LinkSink + Drop + Send + 'static,
     P: Spawner<GateJob<A::Source, A::Sink, J, K, R>>,
     R: Threads + Wait + Copy + Drop + Send + 'static,
 >(

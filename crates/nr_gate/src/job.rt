@@ -11,7 +11,6 @@ use crate::gate_end::GateEnd;
 use crate::remote_caller::RemoteCaller;
 use nr_jobs::Job;
 use nr_links::{LinkNumber, LinkSink, LinkSource, NumberedSink, NumberedSource};
-use nr_outside::{Sink, Source};
 use nr_shared::{AnyCall, Pass, SharedRequester};
 use std::alloc::Global;
 use std::marker::Brand;
@@ -19,7 +18,7 @@ use std::sync::Wait;
 
 /// One connection of a gateway, with all that it uses. The source and the sink are those of one link.
 #[derive(Drop)]
-pub struct GateJob<I: LinkSource, O: LinkSink, J: Source, K: Sink, R> {
+pub struct GateJob<I: LinkSource, O: LinkSink, J: LinkSource + Drop, K: LinkSink + Drop, R> {
     pub rt: R,
     pub alloc: Global,
     pub source: I,
@@ -30,7 +29,7 @@ pub struct GateJob<I: LinkSource, O: LinkSink, J: Source, K: Sink, R> {
 
 /// What is left of a connection of a gateway.
 #[derive(Drop)]
-pub struct GateCarried<I, O, J: Source, K: Sink> {
+pub struct GateCarried<I, O, J: LinkSource + Drop, K: LinkSink + Drop> {
     pub source: I,
     pub sink: O,
     pub pass: Pass<J, K, AnyCall>,
@@ -38,7 +37,14 @@ pub struct GateCarried<I, O, J: Source, K: Sink> {
 }
 
 /// Serves the connection of a link. The types keep the number of the link.
-fn gate_numbered<N: LinkNumber, I: LinkSource, O: LinkSink, J: Source, K: Sink, R: Wait>(
+fn gate_numbered<
+    N: LinkNumber,
+    I: LinkSource,
+    O: LinkSink,
+    J: LinkSource + Drop,
+    K: LinkSink + Drop,
+    R: Wait,
+>(
     rt: &R,
     alloc: Global,
     source: I,
@@ -67,8 +73,8 @@ fn gate_numbered<N: LinkNumber, I: LinkSource, O: LinkSink, J: Source, K: Sink, 
 impl<
     I: LinkSource + Drop + Send + 'static,
     O: LinkSink + Drop + Send + 'static,
-    J: Source + Drop + Send + 'static,
-    K: Sink + Drop + Send + 'static,
+    J: LinkSource + Drop + Send + 'static,
+    K: LinkSink + Drop + Send + 'static,
     R: Wait + Copy + Drop + Send + 'static,
 > Job for GateJob<I, O, J, K, R> {
     type Out = GateCarried<I, O, J, K>;

@@ -4,7 +4,7 @@ ghost use Rattle.std.specs.Prelude.{◌≡◌};
 ghost use Rattle.std.specs.Arc.{arc_value};
 ghost use Rattle.nr_shared.specs.Sharing.{SharedRests};
 
-use nr_outside::{Sink, Source};
+use nr_links::{LinkSink, LinkSource};
 use nr_shared::{AnyCall, Pass, SharedRequester};
 use std::alloc::Global;
 use std::marker::Model;
@@ -13,12 +13,12 @@ use std::sync::Arc;
 /// A share of a shared requester, with a pass of it. The pass is a caller's, and is outside of its turns. Contracts see the requester
 /// and the pass.
 #[derive(Drop)]
-pub struct RemoteCaller<J: Source, K: Sink> {
+pub struct RemoteCaller<J: LinkSource + Drop, K: LinkSink + Drop> {
     remote: Arc<SharedRequester<J, K, AnyCall>, Global>,
     pass: Pass<J, K, AnyCall>,
 }
 
-impl<J: Source, K: Sink> Model for RemoteCaller<J, K> {
+impl<J: LinkSource + Drop, K: LinkSink + Drop> Model for RemoteCaller<J, K> {
     ghost use Rattle.std.specs.Arc.{arc_value};
     ghost use Rattle.std.specs.Coded.{codes};
     ghost use Rattle.nr_endpoint.specs.Codes.{state_code};
@@ -34,7 +34,7 @@ impl<J: Source, K: Sink> Model for RemoteCaller<J, K> {
     ghost invariant = { λ c. SharedRests (arc_value c.remote) c.pass };
 }
 
-impl<J: Source, K: Sink> RemoteCaller<J, K> {
+impl<J: LinkSource + Drop, K: LinkSink + Drop> RemoteCaller<J, K> {
     /// A caller of this requester, with this pass.
     pub(crate) fn new(
         remote: Arc<SharedRequester<J, K, AnyCall>, Global>,

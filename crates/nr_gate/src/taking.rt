@@ -12,7 +12,7 @@ use crate::gated_links::GatedLinks;
 use crate::job::GateJob;
 use nr_accept::ServeFault;
 use nr_jobs::Spawner;
-use nr_links::Acceptor;
+use nr_links::{Acceptor, LinkSink, LinkSource};
 use nr_outside::{Sink, Source};
 use std::alloc::Global;
 use std::sync::Wait;
@@ -24,8 +24,8 @@ use std::thread::Threads;
 /// Accepts a link and starts its job. If the job is handed back, runs it, and hangs the link up.
 fn take_next<
     A: Acceptor,
-    J: Source + Drop + Send + 'static,
-    K: Sink + Drop + Send + 'static,
+    J: LinkSource + Drop + Send + 'static,
+    K: LinkSink + Drop + Send + 'static,
     P: Spawner<GateJob<A::Source, A::Sink, J, K, R>>,
     R: Threads + Wait + Copy + Drop + Send + 'static,
 >(
@@ -76,8 +76,8 @@ where
 /// that no link is accepted in vain.
 fn take_one<
     A: Acceptor,
-    J: Source + Drop + Send + 'static,
-    K: Sink + Drop + Send + 'static,
+    J: LinkSource + Drop + Send + 'static,
+    K: LinkSink + Drop + Send + 'static,
     P: Spawner<GateJob<A::Source, A::Sink, J, K, R>>,
     R: Threads + Wait + Copy + Drop + Send + 'static,
 >(
@@ -143,8 +143,8 @@ where
 /// memory for another link or its end. What was taken until then stays.
 pub(crate) fn take_gated<
     A: Acceptor,
-    J: Source + Drop + Send + 'static,
-    K: Sink + Drop + Send + 'static,
+    J: LinkSource + Drop + Send + 'static,
+    K: LinkSink + Drop + Send + 'static,
     P: Spawner<GateJob<A::Source, A::Sink, J, K, R>>,
     R: Threads + Wait + Copy + Drop + Send + 'static,
 >(

@@ -46,7 +46,7 @@ use Rattle.nr_shared.specs.declared.call_end.CallEnd.TheVariants as call_ends
 use Rattle.nr_shared.specs.declared.entry.Entry.{Entry}
 use Rattle.nr_shared.specs.declared.entry.Entry.TheVariants as entries
 use Rattle.nr_shared.specs.declared.requester_with_sink.RequesterWithSink.{RequesterWithSink}
-use Rattle.nr_shared.specs.Histories.{mark_at, run_of}
+use Rattle.nr_shared.specs.OneLink.{mark_at, run_of}
 use Rattle.nr_shared.specs.Waiting.{Calls, NoAnswer, SendsNone}
 use Rattle.nr_gate.specs.declared.gate_end.GateEnd.{GateEnd}
 use Rattle.nr_gate.specs.declared.gate_end.GateEnd.TheVariants as ends

@@ -37,7 +37,9 @@ use Rattle.nr_record_loop.specs.Connections.{Unanswered, calls as exchanged_call
 use Rattle.nr_shared.specs.declared.call_end.CallEnd.TheVariants as call_ends
 use Rattle.nr_shared.specs.declared.entry.Entry.{Entry}
 use Rattle.nr_shared.specs.declared.requester_with_sink.RequesterWithSink.{RequesterWithSink}
-use Rattle.nr_shared.specs.Histories.{FitsHistory, run_of}
+use Rattle.nr_shared.specs.Ending.{LossEnds}
+use Rattle.nr_shared.specs.Histories.{tries_of}
+use Rattle.nr_shared.specs.LinkRuns.{FitsHistory, LinkRun, links_of}
 use Rattle.nr_shared.specs.Waiting.{NoAnswer, SendsNone}
 use Rattle.nr_gate.specs.declared.gate_end.GateEnd.{GateEnd}
 use Rattle.nr_gate.specs.declared.gate_end.GateEnd.TheVariants as ends
@@ -154,29 +156,35 @@ all_back P (x ∷ xs) ys all = all_back P xs ys all.1
 last_of : {A : Type 0} (P : A → Type 0) (all xs ys : List A) (y : A) (zs : List A) → all ≡ xs ++ ys → ys ≡ y ∷ zs → AllByRecursion P all → P y
 last_of P all xs ys y zs order ys_are are = (subst (AllByRecursion P) ys_are (all_back P xs ys (subst (AllByRecursion P) order are))).0
 
-module _ {O C : Type 0} (p q : Pass (RequesterWithSink O C) Entry) (bytes : List ℕ) (need room : ℕ) (is_bytes : IsBytes bytes) (in_limit : IsInLimit bytes) (opened : LinkParameters) (link : ℕ) (marks : List Mark) where
-  abbrev run : List Mark
-  run = run_of marks 0 link (seen_by q)
+-- no link is lost so
+no_loss : (tries : Option ℕ) (need room : ℕ) (history : List Entry) → LossEnds tries (call_ends.TooLarge need room) history → ⊥
+no_loss None need room history loss = loss
+no_loss (Some tries) need room history loss = loss
+
+module _ {O C : Type 0} (p q : Pass (RequesterWithSink O C) Entry) (bytes : List ℕ) (need room : ℕ) (is_bytes : IsBytes bytes) (in_limit : IsInLimit bytes) (opened : LinkParameters) (numbers : ℕ → ℕ) (marks : List Mark) where
+  abbrev at_last : LinkRun
+  at_last = links_of opened numbers marks 0 (seen_by q)
 
   short : (xid x : ℕ) (asked : Call) → Asks bytes xid asked → length (call_payload x asked) ≤ PAYLOAD_MAX
   short xid x asked asks = omega (arith, ap length (forwarded_payload xid x asked bytes asks), no_longer x bytes is_bytes, in_limit)
 
-  not_made : FitsHistory (seen_by q) opened link marks → Makes p q bytes (Err (call_ends.TooLarge need room)) → ⊥
+  not_made : FitsHistory (seen_by q) opened numbers marks → Makes p q bytes (Err (call_ends.TooLarge need room)) → ⊥
   not_made fits m = ⊎_elim
       (λ (none : SendsNone p q m.asked forms.Auto (call_ends.TooLarge need room)).
-      not_refused (client opened link run) m.asked need room (client_unit opened link run) (short m.xid (client opened link run).state.next_xid m.asked m.asks) (none.cause.1 opened link marks fits))
-      (λ (lost : NoAnswer p q m.asked forms.Auto (call_ends.TooLarge need room)). lost.ended)
+      (let c = client at_last.at.opened at_last.at.link at_last.run in
+      not_refused c m.asked need room (client_unit at_last.at.opened at_last.at.link at_last.run) (short m.xid c.state.next_xid m.asked m.asks) (none.cause.1 opened numbers marks fits)))
+      (λ (lost : NoAnswer p q m.asked forms.Auto (call_ends.TooLarge need room)). no_loss (tries_of lost.before) need room lost.before lost.ended)
       m.made
 
 pub connections_never_end_too_large : {O C : Type 0} → ConnectionsNeverEndTooLarge O C
-connections_never_end_too_large {O} {C} before after need room opened link marks g bytes fits =
+connections_never_end_too_large {O} {C} before after need room opened numbers marks g bytes fits =
     let next = g.more_is in
     let end : GateEnd = ends.Remote (call_ends.TooLarge need room) in
     let (m, (all, made)) = subst (λ (o : Option Unanswered). Gates end before.state after.state g.exchanges o) next.more_is g.serves.did in
     let is_bytes = last_of IsBytes g.records (exchanged_calls g.exchanges) g.others next.call next.later g.order next.others_are bytes in
     let in_limit = last_of IsInLimit g.records (exchanged_calls g.exchanges) g.others next.call next.later g.order next.others_are g.limit in
-    not_made m after.state next.call need room is_bytes in_limit opened link marks fits made
+    not_made m after.state next.call need room is_bytes in_limit opened numbers marks fits made
 
 pub links_never_end_too_large : {O C : Type 0} → LinksNeverEndTooLarge O C
-links_never_end_too_large {O} {C} p q accepted hung_up source_faults sink_faults need room opened link marks g bytes fits =
-    connections_never_end_too_large (loop_at accepted.left accepted.given accepted.taken g.first) (loop_at hung_up.left hung_up.given hung_up.taken g.own) need room opened link marks g.gated bytes fits
+links_never_end_too_large {O} {C} p q accepted hung_up source_faults sink_faults need room opened numbers marks g bytes fits =
+    connections_never_end_too_large (loop_at accepted.left accepted.given accepted.taken g.first) (loop_at hung_up.left hung_up.given hung_up.taken g.own) need room opened numbers marks g.gated bytes fits

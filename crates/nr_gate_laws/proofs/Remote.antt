@@ -7,7 +7,7 @@ use mathlib.Core.Option.{some, some-injective, some-ne-none}
 use lib.ListN.{get_elem?}
 use Rattle.nr_reduce.specs.declared.mark.Mark.{Mark}
 use Rattle.nr_shared.specs.declared.entry.Entry.{Entry}
-use Rattle.nr_shared.specs.Histories.{mark_at, run_of}
+use Rattle.nr_shared.specs.OneLink.{mark_at, run_of}
 use Rattle.nr_laws.proofs.Basics.{first_is_lem, rest_is_lem}
 
 -- an entry stands between those before it and those after it

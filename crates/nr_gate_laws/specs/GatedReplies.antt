@@ -22,7 +22,7 @@ use Rattle.nr_turnstile.specs.Rule.{Begins}
 use Rattle.nr_record_loop.specs.Connections.{Exchange, Loop}
 use Rattle.nr_shared.specs.declared.entry.Entry.{Entry}
 use Rattle.nr_shared.specs.declared.requester_with_sink.RequesterWithSink.{RequesterWithSink}
-use Rattle.nr_shared.specs.Histories.{run_of}
+use Rattle.nr_shared.specs.OneLink.{run_of}
 use Rattle.nr_gate.specs.declared.gate_end.GateEnd.{GateEnd}
 use Rattle.nr_links.specs.Links.{EndedLink}
 use Rattle.nr_gate.specs.Gating.{IsGated}

@@ -1,5 +1,5 @@
 -- A gateway that a configuration asks for.
-use Rattle.std.specs.Prelude.{◌≡◌, ℕ, ◌+◌, ◌++◌, List, [], ◌∷◌, length, codes, IfSome}
+use Rattle.std.specs.Prelude.{◌≡◌, ℕ, ◌+◌, ◌++◌, List, [], ◌∷◌, length, Option, None, codes, IfSome}
 use Rattle.std.specs.Fmt.{decimal}
 use Rattle.nr_links.specs.Asked.{Asks}
 use Rattle.nr_links.specs.Links.{MakesLink}
@@ -41,14 +41,15 @@ pub record Dials (addr : List ℕ) (before after : DialerAt) : Type 0 where
   pub unfailing : after.faults ≡ before.faults
 
 -- A requester was opened over a new link with these credits, with one unit and without Sends with Invalidate, and shared
--- before it moved a byte. This is the history that a pass has seen, of which nothing is its own.
+-- before it moved a byte; the link isn't dialled again. This is the history that a pass has seen, of which nothing is its own.
 pub record OpensRemote (history : List Entry) (mine : List ℕ) : Type 0 where
   pub initial : InitialState
   pub history_is : history ≡ entries.Initial initial ∷ []
   pub own : mine ≡ []
   pub stands : RepresentsNewLink initial.requester gate_credits default_terms
-  pub nothing_taken : IfSome initial.taken (λ bytes. bytes ≡ [])
-  pub no_fault : initial.faults ≡ 0
+  pub nothing_taken : IfSome initial.sink.taken (λ bytes. bytes ≡ [])
+  pub no_fault : initial.sink.faults ≡ 0
+  pub once : initial.tries ≡ None
 
 -- The acceptor listened at the address of the configuration, and the remote server was dialled once. Links were taken
 -- then: of each a job was started, or its connection was served here, and these are the ends of those. All jobs that were

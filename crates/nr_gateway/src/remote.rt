@@ -1,6 +1,6 @@
 //! The remote link of a gateway, and the requester over it that its connections share.
 
-ghost use Rattle.std.specs.Prelude.{◌≡◌, ◌≢◌, ◌≤◌, [], ◌∷◌, Some, IfOk, MatchResult};
+ghost use Rattle.std.specs.Prelude.{◌≡◌, ◌≢◌, ◌≤◌, [], ◌∷◌, None, Some, IfOk, MatchResult};
 ghost use Rattle.std.specs.Arc.{arc_value};
 ghost use Rattle.nr_link.specs.declared.end.End.TheVariants as ends;
 ghost use Rattle.nr_links.specs.Links.{IsNewLink};
@@ -33,14 +33,14 @@ const GATE_CREDITS: u32 = 16;
 const GATE_UNITS: u8 = 1;
 
 /// Hands a requester in, to be shared by owners, with its source and its sink. If memory runs out, all three are dropped.
-fn share_remote<N: Appended, R: Wait, J: Source + Drop, K: Sink + Drop>(
+fn share_remote<N: Appended, R: Wait, J: LinkSource + Drop, K: LinkSink + Drop>(
     rt: &R,
     alloc: Global,
     requester: Requester,
     source: J,
     sink: K,
 ) -> Result<(Remote<J, K>, Pass<J, K, AnyCall>), Memory>
-    requires entry { entries.Initial (record { requester = requester; faults = K.faults sink; taken = K.taken sink }) ≡ N.entry }
+    requires entry { entries.Initial (record { requester = requester; sink = record { link = K.link sink; faults = K.faults sink; taken = K.taken sink }; tries = None }) ≡ N.entry }
     requires has_memory { requester.state.side.ended ≢ Some ends.Memory }
     requires fed { fed_bytes requester ≤ bytes_before }
     ensures rests { IfOk result (λ t. SharedRests (arc_value t.0) t.1) }
@@ -58,7 +58,7 @@ fn share_remote<N: Appended, R: Wait, J: Source + Drop, K: Sink + Drop>(
 }
 
 /// Opens a requester over a new link, and shares it.
-fn share_opened<R: Wait, J: Source + Drop, K: Sink + Drop>(
+fn share_opened<R: Wait, J: LinkSource + Drop, K: LinkSink + Drop>(
     rt: &R,
     alloc: Global,
     source: J,

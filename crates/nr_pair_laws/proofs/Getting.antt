@@ -13,7 +13,7 @@ use Rattle.nr_client.specs.declared.client_end.ClientEnd.TheVariants as client
 use Rattle.nr_client.specs.Following.{EndsWith, Follows, Next}
 use Rattle.nr_client.specs.Following.Next.{Calls, Returns}
 use Rattle.nr_client.specs.Reading.{EndsReading, OpenRead, ReadsFile, TakesRead, bytes_read, reading, starts_at}
-use Rattle.nr_client.specs.Reading.EndsReading.{EndsByReplies, NotAnswered, NotSubmitted, OldestForgotten, OutputFails}
+use Rattle.nr_client.specs.Reading.EndsReadingOver.{EndsByReplies, NotAnswered, NotSubmitted, OldestForgotten, OutputFails}
 use Rattle.nr_client.specs.Requests.{mnt_call, mnt_result}
 use Rattle.nr_client.specs.Walking.{walk_next}
 use Rattle.nr_client.specs.Views.{LinkView}

@@ -31,7 +31,8 @@ use Rattle.nr_laws.specs.Typed.{IsTyped, TypedMark}
 use Rattle.nr_turnstile.specs.Rule.{Begins, Earlier}
 use Rattle.nr_shared.specs.declared.entry.Entry.{Entry as SharedEntry}
 use Rattle.nr_shared.specs.declared.entry.Entry.TheVariants as entries
-use Rattle.nr_shared.specs.Histories.{closes_of, mark_at, run_of}
+use Rattle.nr_shared.specs.Histories.{closes_of}
+use Rattle.nr_shared.specs.OneLink.{mark_at, run_of}
 use Rattle.nr_tree.specs.Sane.{IsSane}
 use Rattle.nr_plain.specs.History.{AllPlaced, Answered as AnsweredCall, setup_in}
 use Rattle.nr_plain.specs.ReplyLaws.{plain_server}

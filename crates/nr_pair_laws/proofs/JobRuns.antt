@@ -1,5 +1,5 @@
 -- A `get` by several jobs is one run of its link.
-use Rattle.std.proofs.Common.{◌≡◌, ◌≢◌, ℕ, suc, Bool, true, false, List, [], ◌∷◌, ◌++◌, Option, None, Some, Result, Ok, Err, inl, inr, refl, sym, ap, subst, ◌∙◌, append-nil}
+use Rattle.std.proofs.Common.{◌≡◌, ◌≢◌, ℕ, suc, Bool, true, false, List, [], ◌∷◌, ◌++◌, Option, None, Some, is_some, ◌+◌, length, Result, Ok, Err, inl, inr, refl, sym, ap, subst, ◌∙◌, append-nil}
 use Rattle.std.specs.Prelude.{IfSome}
 use Rattle.std.specs.List.{AllByRecursion, flat_map}
 use Rattle.std.specs.Io.KnownBytes.{Appends}
@@ -30,11 +30,15 @@ use Rattle.nr_turnstile.specs.Rule.{Begins}
 use Rattle.nr_shared.specs.declared.entry.Entry.{Entry}
 use Rattle.nr_shared.specs.declared.entry.Entry.TheVariants as entries
 use Rattle.nr_shared.specs.declared.entry.InitialState.{InitialState}
-use Rattle.nr_shared.specs.Histories.{Allows, AreAllowed, FitsInitialState, bytes_fed, bytes_written, initial_of, mark_at, run_of, stop_of}
+use Rattle.nr_shared.specs.Histories.{Allows, AreAllowed, bytes_fed, bytes_written, initial_of, rejoins, stop_of, tries_in}
+use Rattle.nr_shared.specs.OneLink.{FitsOneState, mark_at, run_of}
+use Rattle.nr_shared.specs.LinkRuns.{FitsInitialState, LinkRun, OnLinks}
+use Rattle.nr_shared.specs.LinkStanding.{IsLiveOn, IsOutOn}
 use Rattle.nr_shared.specs.Marks.{IsLive as IsSharedLive}
-use Rattle.nr_shared.specs.Standing.{RepresentsHistoryIf, is_out_of_memory}
+use Rattle.nr_shared.specs.Standing.{OnHistory, RejoinsWithin, RepresentsHistoryIf, is_out_of_memory}
 use Rattle.nr_shared.proofs.Histories.{initial_more}
-use Rattle.nr_client.specs.declared.call_end.CallEnd.TheVariants as calls
+use Rattle.nr_shared.proofs.OneLink.{on_one_link}
+use Rattle.nr_shared.specs.declared.call_end.CallEnd.TheVariants as calls
 use Rattle.nr_client.specs.declared.client_end.ClientEnd.{ClientEnd}
 use Rattle.nr_client.specs.declared.client_end.ClientEnd.TheVariants as client
 use Rattle.nr_client.specs.Dialing.{DialerAt}
@@ -60,7 +64,9 @@ use Rattle.nr_service_laws.proofs.Extending.{does_as, does_both}
 use Rattle.nr_service_laws.proofs.OneCall.{does_answers}
 use Rattle.nr_service_laws.proofs.Parts.{has_finds, has_request}
 use Rattle.nr_pair_laws.specs.JobRuns.{IsJobMark, IsJobsRun, JobsHaveARun, SaysOfFile}
+use Rattle.nr_pair_laws.proofs.FaultCounts.{counts_of_both}
 use Rattle.nr_pair_laws.proofs.JobBytes.{history_fed, history_received, history_sent}
+use Rattle.nr_pair_laws.proofs.OneBack.{moved_over_one}
 
 -- ---- Its marks
 
@@ -102,6 +108,7 @@ entry_marks n link allows auto (entries.Revoke xid bytes submit) is = (refl, tt)
 entry_marks n link allows auto entries.WriteFailed is = tt
 entry_marks n link allows auto (entries.Stopped cause previous) is = tt
 entry_marks n link allows auto (entries.OutOfMemory piece previous) is = (refl, tt)
+entry_marks n link allows auto (entries.Rejoin sink previous) is = tt
 
 history_marks : (n link : ℕ) (allows : Call → Form → Type 0) → ((call : Call) (form : Form) → allows call form → form ≡ forms.Auto) → (history : List Entry) → AreAllowed allows history
     → AllByRecursion (IsJobMark link) (flat_map (mark_at n link) history)
@@ -123,10 +130,19 @@ record KeepsLaws (opened : LinkParameters) (link : ℕ) (alone : List Mark) (his
   asked : AskedSoFar opened link (run_of alone fed link history)
   granted : KeepsGrant opened link (run_of alone fed link history)
 
-keeps_laws : (b : Bool) (initial : InitialState) (r : RequesterSide) (history : List Entry) (opened : LinkParameters) (link : ℕ) (alone : List Mark) → RepresentsHistoryIf b initial r history
-    → FitsInitialState initial opened link alone → KeepsLaws opened link alone history
-keeps_laws false initial r history opened link alone (runs, live) fits = let l = live opened link alone fits in record { fed = 0; asked = l.asked; granted = l.granted }
-keeps_laws true initial r history opened link alone (runs, (n, out)) fits = let o = out opened link alone fits in record { fed = n; asked = o.asked; granted = o.granted }
+-- what is said of the links of a history, if that has this initial state
+on_links : (n : ℕ) (initial : InitialState) (history : List Entry) (Says : LinkRun → Type 0) → initial_of history ≡ Some initial → OnHistory n initial history Says → OnLinks n history Says
+on_links n initial history Says is on opened numbers before (other, other_is, fits) =
+    on opened numbers before (subst (λ (x : InitialState). FitsInitialState x (rejoins history) opened numbers before) (some_is_lem other initial (sym other_is ∙ is)) fits)
+
+keeps_laws : (b : Bool) (initial : InitialState) (r : RequesterSide) (history : List Entry) (opened : LinkParameters) (link : ℕ) (alone : List Mark) → initial_of history ≡ Some initial → rejoins history ≡ 0
+    → RepresentsHistoryIf b initial r history → FitsOneState initial opened link alone → KeepsLaws opened link alone history
+keeps_laws false initial r history opened link alone is none (runs, live) fits =
+    let l = on_one_link (λ (x : LinkRun). IsLiveOn x r) 0 history none (on_links 0 initial history (λ (x : LinkRun). IsLiveOn x r) is (live 0)) opened link alone (initial, is, fits) in
+    record { fed = 0; asked = l.law.asked; granted = l.law.granted }
+keeps_laws true initial r history opened link alone is none (runs, (n, out)) fits =
+    let o = on_one_link (λ (x : LinkRun). IsOutOn x r) n history none (on_links n initial history (λ (x : LinkRun). IsOutOn x r) is out) opened link alone (initial, is, fits) in
+    record { fed = n; asked = o.law.asked; granted = o.law.granted }
 
 same_initial : (seen history : List Entry) (a b : InitialState) → Begins seen history → initial_of seen ≡ Some a → initial_of history ≡ Some b → a ≡ b
 same_initial seen history a b begins first second =
@@ -160,20 +176,24 @@ jobs_run opened link addr units invalidates uid gid export path file before dial
     let live = stands_live opened link mid.requester done.ahead alone done.stands in
     let same = same_initial shared.seen history shared.initial back.initial back.begins shared.is_initial back.is_initial in
     let requester : mid.requester ≡ back.initial.requester = sym shared.of_requester ∙ ap (λ (i : InitialState). i.requester) same in
-    let fits : FitsInitialState back.initial opened link alone = record {
+    let fits : FitsOneState back.initial opened link alone = record {
       opens = session.fine;
       live = subst (λ (h : RequesterSide). IsSharedLive opened link h alone) requester (record { stands = live.0.stands; asked = live.0.asked; granted = live.0.granted });
     } in
-    let laws = keeps_laws (is_out_of_memory (stop_of history)) back.initial shared.requester history opened link alone back.represents fits in
-    let fed = history_fed laws.fed link history back.may_follow in
+    let once : back.initial.tries ≡ None = sym (ap (λ (i : InitialState). i.tries) same) ∙ shared.once in
+    let none : rejoins history ≡ 0 = subst (λ (o : Option ℕ). RejoinsWithin o (rejoins history)) once back.within_tries in
+    let laws = keeps_laws (is_out_of_memory (stop_of history)) back.initial shared.requester history opened link alone back.is_initial none back.represents fits in
+    let over = moved_over_one {I = SourceAt} {O = SinkAt} (λ x. shared.number) (λ x. x.left) (λ x. x.given) (λ x. x.faults) (λ x. shared.number) (λ x. x.taken) (λ x. x.faults) (is_some back.initial.tries) false mid.source
+    (mid.read + length (bytes_fed history)) source sink history back.initial back.is_initial back.in_order none back.link_is in
+    let fed = history_fed laws.fed link history back.may_follow (ap tries_in back.is_initial ∙ once) in
     let received = history_received alone laws.fed link history fed in
     let sent = history_sent alone laws.fed link history in
     let first : HandsOut s.bytes.left s.bytes.given mid.source.left mid.source.given (bytes_received link Initiator alone) =
     subst (λ (l : List ℕ). HandsOut s.bytes.left s.bytes.given mid.source.left mid.source.given l) (ap (λ (l : List ℕ). bytes_received link Initiator alone ++ l) live.1 ∙ append-nil (bytes_received link Initiator alone)) done.extends.handed in
-    let moved = HandsOut_append s.bytes.left s.bytes.given mid.source.left mid.source.given source.left source.given (bytes_received link Initiator alone) (bytes_fed history) first back.gave in
+    let moved = HandsOut_append s.bytes.left s.bytes.given mid.source.left mid.source.given source.left source.given (bytes_received link Initiator alone) (bytes_fed history) first over.gave in
     let all = subst (λ (l : List ℕ). HandsOut s.bytes.left s.bytes.given source.left source.given l) (sym received) moved in
-    let initial_taken : back.initial.taken ≡ mid.sink.taken = sym (ap (λ (i : InitialState). i.taken) same) ∙ shared.of_sink.0 in
-    let wrote : Appends mid.sink.taken sink.taken (bytes_written history) = subst (λ (o : Option (List ℕ)). Appends o sink.taken (bytes_written history)) initial_taken back.took in
+    let initial_taken : back.initial.sink.taken ≡ mid.sink.taken = sym (ap (λ (i : InitialState). i.sink.taken) same) ∙ shared.of_sink.0 in
+    let wrote : Appends mid.sink.taken sink.taken (bytes_written history) = subst (λ (o : Option (List ℕ)). Appends o sink.taken (bytes_written history)) initial_taken over.took in
     let took = Appends-trans s.bytes.taken mid.sink.taken sink.taken (bytes_sent link Initiator alone) (bytes_written history) done.extends.taken wrote in
     record {
       run = run_of alone laws.fed link history;
@@ -268,7 +288,7 @@ no_size_run opened link addr units invalidates uid gid export path file before d
     let found = tells_finds uid gid export path s s' (Ok file) finds in
     let asked = asked_exchanges getattr_result call (view_at (link_of s')) (view_at mid) (Err end) gets.asks in
     let second = does_as {A = Attributes} {B = Unit {0}} (Err end) result s' (view_at mid) asked (λ e ended. same_end {A = Attributes} result end e is ended)
-    (has_request getattr_result call s' (session_of mid) (Err end) (gets.asks, (gets.source_count, gets.sink_count))) in
+    (has_request getattr_result call s' (session_of mid) (Err end) (gets.asks, counts_of_both {A = Attributes} (Err end) s' (session_of mid) gets.source_count gets.sink_count)) in
     let has = does_both {A = List ℕ} {B = Unit {0}} file result s s' (view_at mid) found asked (has_finds uid gid export path s s' (Ok file) finds) second in
     let done = has opened link [] session.fine (sessions_begin_lem addr (terms_with units invalidates) before dialed s opened link opens session.first_xid session.first_stag session.wished) in
     alone_run opened link addr (terms_with units invalidates) before dialed after s opens mid.source mid.sink mid.read mid.requester result (and_then found asked) session.wished.1.1 (ap (λ (t : SideTerms). t.number) session.wished.1.0) done hangs

@@ -13,7 +13,8 @@ use Rattle.nr_reduce.specs.Served.{Served}
 use Rattle.nr_laws.specs.Typed.{IsTyped}
 use Rattle.nr_shared.specs.declared.entry.Entry.{Entry as SharedEntry}
 use Rattle.nr_shared.specs.declared.entry.Entry.TheVariants as entries
-use Rattle.nr_shared.specs.Histories.{Allows, AreAllowed, mark_at}
+use Rattle.nr_shared.specs.Histories.{Allows, AreAllowed}
+use Rattle.nr_shared.specs.OneLink.{mark_at}
 use Rattle.nr_plain.specs.History.{setup_in}
 use Rattle.nr_byte_laws.proofs.ByteClients.{none_again}
 use Rattle.nr_client.specs.declared.client_end.ClientEnd.{ClientEnd}
@@ -39,6 +40,7 @@ use Rattle.nr_pair_laws.specs.JobPairs.{JobsAreTyped}
 use Rattle.nr_pair_laws.specs.JobRuns.{IsJobMark, IsJobsRun, SaysOfFile}
 use Rattle.nr_pair_laws.specs.Pairs.{AreSidesOf}
 use Rattle.nr_pair_laws.proofs.AnsweredCalls.{exchanged_in, is_exchanged}
+use Rattle.nr_pair_laws.proofs.FaultCounts.{counts_of_both}
 use Rattle.nr_pair_laws.proofs.JobAnswers.{job_far, run_first}
 use Rattle.nr_pair_laws.proofs.JobRuns.{session_of}
 use Rattle.nr_pair_laws.proofs.Pairs.{connection_replies}
@@ -69,6 +71,7 @@ module _ (uid gid : ℕ) (file : List ℕ) (size n link : ℕ) (words : AreWords
   one_entry entries.WriteFailed rest allowed later = later
   one_entry (entries.Stopped cause previous) rest allowed later = later
   one_entry (entries.OutOfMemory piece previous) rest allowed later = later
+  one_entry (entries.Rejoin sink previous) rest allowed later = later
 
   all_entries : (history : List SharedEntry) → AreAllowed (FileReads uid gid file size) history → MarksOfBytes (without_bytes (flat_map (mark_at n link) history))
   all_entries [] allowed = tt
@@ -122,7 +125,7 @@ jobs_are_typed_lem limits first J opened link outside outside' end connection ge
     by (NoAttributes mid why gets is same none) = λ ran both sides.
         let asked = (asked_exchanges getattr_result call (view_at (link_of s')) (view_at mid) (Err why) gets.asks).made in
         let of_asked : AreBytes found → CallsAreBytes asked =
-        (λ all. (request_bytes (λ (value : Attributes). Unit {0}) getattr_result call (asks all) (λ outcome value o e. tt) s' (session_of mid) (Err why) (gets.asks, (gets.source_count, gets.sink_count))).0) in
+        (λ all. (request_bytes (λ (value : Attributes). Unit {0}) getattr_result call (asks all) (λ outcome value o e. tt) s' (session_of mid) (Err why) (gets.asks, counts_of_both {A = Attributes} (Err why) s' (session_of mid) gets.source_count gets.sink_count)).0) in
         typed (found ++ asked) [] ran (both_calls found asked finding.0 of_asked) (λ all k. tt) both sides
     by (Shared mid outcome attributes gets shared) = λ ran both sides.
         let asked = Answered call outcome ∷ [] in

@@ -6,6 +6,7 @@ pub mod Bytes
 pub mod Calls
 pub mod Changed
 pub mod Created
+pub mod FaultCounts
 pub mod FileReads
 pub mod FileWrites
 pub mod FirstTrees
@@ -21,6 +22,7 @@ pub mod Kept
 pub mod LongerJournals
 pub mod Mounts
 pub mod Numbers
+pub mod OneBack
 pub mod Pairs
 pub mod Paths
 pub mod PlacedCalls

@@ -35,7 +35,7 @@ use Rattle.nr_plain.specs.Setup.{Setup}
 use Rattle.nr_plain.proofs.PlainServers.{server_is_plain}
 use Rattle.nr_byte_laws.specs.InBytes.{EntriesInBytes, IsInBytes}
 use Rattle.nr_byte_laws.proofs.ByteClients.{none_again}
-use Rattle.nr_client.specs.declared.call_end.CallEnd.TheVariants as calls
+use Rattle.nr_shared.specs.declared.call_end.CallEnd.TheVariants as calls
 use Rattle.nr_client.specs.declared.client_end.ClientEnd.TheVariants as client
 use Rattle.nr_commands.specs.Running.Runs.{NotOpened, Opened}
 use Rattle.nr_host.specs.Connections.{Outside, answer_of, answers_of}

@@ -15,7 +15,7 @@ use Rattle.nr_client.specs.Following.Next.{Calls, Returns}
 use Rattle.nr_client.specs.Requests.{mnt_call, mnt_result}
 use Rattle.nr_client.specs.Walking.{parent_next}
 use Rattle.nr_client.specs.Writing.{EndsWriting, WritesFile, writing}
-use Rattle.nr_client.specs.Writing.EndsWriting.{FollowsInput, InputFails}
+use Rattle.nr_client.specs.Writing.EndsWritingOver.{FollowsInput, InputFails}
 use Rattle.nr_client.specs.Views.{LinkView}
 use Rattle.nr_commands.specs.Commands.{FindsParent, Mounts, WritesIn}
 use Rattle.nr_commands.specs.Sessions.{Fails, Request, SessionAt}

@@ -37,7 +37,7 @@ use Rattle.nr_client.specs.Following.{EndsWith, Follows, Next, Unanswered, go_on
 use Rattle.nr_client.specs.Following.Next.{Calls, Returns}
 use Rattle.nr_client.specs.Paths.{path_names}
 use Rattle.nr_client.specs.Reading.{EndsReading, FileRead, OpenRead, ReadsFile, after_reply, next_read, offset_after, piece_left, read_call, read_result, reading, starts_at, with_data, with_size}
-use Rattle.nr_client.specs.Reading.EndsReading.{EndsByReplies, NotAnswered, NotSubmitted, OldestForgotten, OutputFails}
+use Rattle.nr_client.specs.Reading.EndsReadingOver.{EndsByReplies, NotAnswered, NotSubmitted, OldestForgotten, OutputFails}
 use Rattle.nr_client.specs.Reading.FileRead.{NothingKnown, ReadEnds, SizeKnown}
 use Rattle.nr_client.specs.Requests.{getattr_result, handle_of as root_of, lookup_call, mnt_call, mnt_result}
 use Rattle.nr_client.specs.Results.{Gives, mount_done, result_by_reading, result_of_outcome, results_in, results_or}

@@ -19,10 +19,11 @@ use Rattle.nr_reduce.specs.Credits.{KeepsGrant}
 use Rattle.nr_reduce.specs.History.{bytes_received, bytes_sent}
 use Rattle.nr_shared.specs.declared.entry.Entry.{Entry}
 use Rattle.nr_shared.specs.declared.entry.Stop.TheVariants as causes
-use Rattle.nr_shared.specs.Histories.{run_of, stop_of}
+use Rattle.nr_shared.specs.Histories.{stop_of}
+use Rattle.nr_shared.specs.OneLink.{run_of}
 use Rattle.nr_words.specs.Lines.{Text}
 use Rattle.nr_words.specs.declared.commands.GetByJobs.{GetByJobs}
-use Rattle.nr_client.specs.declared.call_end.CallEnd.TheVariants as calls
+use Rattle.nr_shared.specs.declared.call_end.CallEnd.TheVariants as calls
 use Rattle.nr_client.specs.declared.client_end.ClientEnd.{ClientEnd}
 use Rattle.nr_client.specs.declared.client_end.ClientEnd.TheVariants as client
 use Rattle.nr_client.specs.Dialing.{DialerAt}

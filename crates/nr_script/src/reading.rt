@@ -125,8 +125,9 @@ fn add_lines(alloc: Global, draft: &mut Draft, first: u64, text: &[u8]) -> Resul
     }
 }
 
-/// Reads the text of a script: `clients N credits G`, with ` capacity B` and then ` sizes A B` after it if they are given, and
-/// then the other lines.
+/// Reads the text of a script. Its first line is `clients N credits G` and then, each if it is given and in this order,
+/// ` capacity B`, ` sizes A B`, ` numbered` and ` invalidate`; the other lines follow.
+///
 /// Each line ends with a newline, and words are separated by one space. Empty lines and lines that begin with `#` are
 /// skipped. All is ASCII. The text may have at most `nr_outside::INPUT_MAX` bytes.
 ///

@@ -309,7 +309,7 @@ module _ (c : Client Text) (input : SourceAt) (made : List Exchange) (I O : Type
   any r value is = tt
 
   -- each outcome that was handed over is read so
-  peer_judgement : Judgement (IsAnsweredBy made) Any F c.uid c.gid
+  pub peer_judgement : Judgement (IsAnsweredBy made) Any F c.uid c.gid
   peer_judgement = record {
     mounted = λ export o is.
         let codec = status_union_codec mount_status_number mount_statuses mount_ok_codec void in
@@ -344,7 +344,7 @@ module _ (c : Client Text) (input : SourceAt) (made : List Exchange) (I O : Type
         (λ e same. EndsReaddir dir earlier before makes (ends ∙ ap (λ (r : Result (Unit {0}) ClientEnd). Returns (Err (end_in end r))) same)) (λ value same. tt) (readdir_says o end how);
   }
 
-  words_give : WordsGive F c.export c.action input
+  pub words_give : WordsGive F c.export c.action input
   words_give = record {
     export_long = λ long. ExportIsLong refl long;
     path_bad = λ at bad. bad;

@@ -6,18 +6,18 @@ use Rattle.nr_xdr.specs.Item.{IsBytes}
 use Rattle.nr_reduce.specs.declared.call.Call.{Call}
 use Rattle.nr_reduce.specs.declared.call.Outcome.{Outcome}
 use Rattle.nr_byte_laws.specs.DueBytes.{OutcomeIsBytes}
-use Rattle.nr_client.specs.declared.call_end.CallEnd.{CallEnd}
+use Rattle.nr_shared.specs.declared.call_end.CallEnd.{CallEnd}
 use Rattle.nr_client.specs.declared.client_end.ClientEnd.{ClientEnd}
 use Rattle.nr_client.specs.Calls.{GivesUp}
 use Rattle.nr_client.specs.Following.{EndsWith, Follows, MakesCalls, Next, Unanswered}
 use Rattle.nr_client.specs.Following.Next.{Calls, Returns}
 use Rattle.nr_client.specs.Reading.{EndsReading, LeadsBy, OpenRead, ReadStep, ReadingAt, ReadsFile, file_read, starts_at, xids_of}
-use Rattle.nr_client.specs.Reading.ReadStep.{MakesAlone, AsksAhead, TakesOldest}
-use Rattle.nr_client.specs.Reading.EndsReading.{EndsByReplies, OutputFails, NotAnswered, NotSubmitted, OldestForgotten}
+use Rattle.nr_client.specs.Reading.ReadStepOver.{MakesAlone, AsksAhead, TakesOldest, Looks}
+use Rattle.nr_client.specs.Reading.EndsReadingOver.{EndsByReplies, OutputFails, NotAnswered, NotSubmitted, OldestForgotten}
 use Rattle.nr_client.specs.Requests.{Asks}
 use Rattle.nr_client.specs.Results.{Gives}
 use Rattle.nr_client.specs.Writing.{EndsWriting, writing}
-use Rattle.nr_client.specs.Writing.EndsWriting.{FollowsInput, InputFails}
+use Rattle.nr_client.specs.Writing.EndsWritingOver.{FollowsInput, InputFails}
 use Rattle.nr_client.specs.Views.{LinkView}
 use Rattle.nr_commands.specs.Sessions.{Part, Request, Requests, SessionAt, Then}
 use Rattle.nr_service_laws.specs.Exchanges.{Exchange, Exchanges, Tells, asked_exchanges, end_exchanges, followed_exchanges, given_up_exchanges, made_exchanges, outcomes_in, read_exchanges, reading_end_exchanges, step_exchanges, steps_exchanges, tells_none, tells_request, tells_requests, tells_then, unanswered_exchanges, within_exchanges, write_exchanges_by}
@@ -125,6 +125,7 @@ step_calls : (uid gid : ℕ) (file : List ℕ) → AreWords uid gid → IsBytes 
 step_calls uid gid file words f s t (MakesAlone call outcome alone answers replies waits) = (reads_next uid gid file s.outcomes call words f alone.0, λ o. tt)
 step_calls uid gid file words f s t (AsksAhead read ahead submits replies waits) = (reads_ahead uid gid file (file_read s.outcomes) s.waiting read.call words f ahead.1.0, tt)
 step_calls uid gid file words f s t (TakesOldest read outcome full is completes replies waits) = λ o. tt
+step_calls uid gid file words f s t (Looks looks replies waits) = tt
 
 steps_calls : (uid gid : ℕ) (file : List ℕ) → AreWords uid gid → IsBytes file → (first : ReadingAt) (states : List ReadingAt) (last : ReadingAt) (leads : LeadsBy uid gid file first states last)
     → CallsAreBytes (steps_exchanges uid gid file first states last leads).made

@@ -15,7 +15,7 @@ use Rattle.nr_reduce.specs.Asked.{AskedSoFar}
 use Rattle.nr_reduce.specs.declared.call.Outcome.{Outcome}
 use Rattle.nr_reduce.specs.declared.mark.LinkParameters.{LinkParameters}
 use Rattle.nr_reduce.specs.declared.mark.Mark.{Mark}
-use Rattle.nr_client.specs.declared.call_end.CallEnd.TheVariants as calls
+use Rattle.nr_shared.specs.declared.call_end.CallEnd.TheVariants as calls
 use Rattle.nr_client.specs.declared.client_end.ClientEnd.{ClientEnd}
 use Rattle.nr_client.specs.declared.client_end.ClientEnd.TheVariants as client
 use Rattle.nr_words.specs.Lines.{Text}
@@ -108,6 +108,8 @@ has_cause (Err (client.Link (calls.Ended end))) s s' input input' out out' is co
 has_cause (Err (client.Link calls.LinkRead)) s s' input input' out out' is counts memory = counts.0
 has_cause (Err (client.Link calls.LinkWrite)) s s' input input' out out' is counts memory = counts.1
 has_cause (Err (client.Link calls.Closed)) s s' input input' out out' is counts memory = is.1.0
+has_cause (Err (client.Link (calls.Tries n))) s s' input input' out out' is counts memory = absurd is
+has_cause (Err (client.Link calls.DialFault)) s s' input input' out out' is counts memory = absurd is
 has_cause (Err (client.Link (calls.Spent left_over need))) s s' input input' out out' is counts memory = tt
 has_cause (Err (client.Link (calls.TooLarge need room))) s s' input input' out out' is counts memory = tt
 has_cause (Err (client.Link (calls.Budget count))) s s' input input' out out' is counts memory = tt
@@ -180,6 +182,8 @@ complete_by (Err (client.Link (calls.Ended end))) s s' input input' out out' cal
 complete_by (Err (client.Link calls.LinkRead)) s s' input input' out out' calm is = calm.source is
 complete_by (Err (client.Link calls.LinkWrite)) s s' input input' out out' calm is = calm.sink is
 complete_by (Err (client.Link calls.Closed)) s s' input input' out out' calm is = is
+complete_by (Err (client.Link (calls.Tries n))) s s' input input' out out' calm is = is
+complete_by (Err (client.Link calls.DialFault)) s s' input input' out out' calm is = is
 complete_by (Err (client.Link (calls.Spent left_over need))) s s' input input' out out' calm is = tt
 complete_by (Err (client.Link (calls.TooLarge need room))) s s' input input' out out' calm is = tt
 complete_by (Err (client.Link (calls.Budget count))) s s' input input' out out' calm is = tt

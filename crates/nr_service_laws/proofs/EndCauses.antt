@@ -4,8 +4,8 @@ use Rattle.nr_outside.specs.Faults.{Rises}
 use Rattle.nr_link.specs.declared.end.End.{End}
 use Rattle.nr_link.specs.declared.end.End.TheVariants as ends
 use Rattle.nr_requester.specs.RequesterState.{RequesterSide}
-use Rattle.nr_client.specs.declared.call_end.CallEnd.{CallEnd}
-use Rattle.nr_client.specs.declared.call_end.CallEnd.TheVariants as calls
+use Rattle.nr_shared.specs.declared.call_end.CallEnd.{CallEnd}
+use Rattle.nr_shared.specs.declared.call_end.CallEnd.TheVariants as calls
 use Rattle.nr_client.specs.declared.client_end.ClientEnd.{ClientEnd}
 use Rattle.nr_client.specs.declared.client_end.ClientEnd.TheVariants as client
 use Rattle.nr_commands.specs.Running.Runs.{NotOpened, Opened}
@@ -38,6 +38,8 @@ end_in_link other (Err (client.Link (calls.Ended end))) = end
 end_in_link other (Err (client.Link calls.LinkRead)) = other
 end_in_link other (Err (client.Link calls.LinkWrite)) = other
 end_in_link other (Err (client.Link calls.Closed)) = other
+end_in_link other (Err (client.Link (calls.Tries n))) = other
+end_in_link other (Err (client.Link calls.DialFault)) = other
 end_in_link other (Err (client.Link (calls.Spent left_over need))) = other
 end_in_link other (Err (client.Link (calls.TooLarge need room))) = other
 end_in_link other (Err (client.Link (calls.Budget count))) = other

@@ -2,10 +2,10 @@
 use Rattle.std.proofs.Common.{ℕ, List, [], ◌∷◌, ◌++◌, Option, Result, Ok, sym, ap, subst}
 use Rattle.nr_client.specs.declared.client_end.ClientEnd.{ClientEnd}
 use Rattle.nr_client.specs.Reading.{EndsReading, LeadsBy, OpenRead, ReadStep, ReadingAt, ReadsFile, starts_at, xids_of}
-use Rattle.nr_client.specs.Reading.ReadStep.{MakesAlone, AsksAhead, TakesOldest}
-use Rattle.nr_client.specs.Reading.EndsReading.{EndsByReplies, OutputFails, NotAnswered, NotSubmitted, OldestForgotten}
+use Rattle.nr_client.specs.Reading.ReadStepOver.{MakesAlone, AsksAhead, TakesOldest, Looks}
+use Rattle.nr_client.specs.Reading.EndsReadingOver.{EndsByReplies, OutputFails, NotAnswered, NotSubmitted, OldestForgotten}
 use Rattle.nr_client.specs.Writing.{EndsWriting, WritesFile, writing}
-use Rattle.nr_client.specs.Writing.EndsWriting.{FollowsInput, InputFails}
+use Rattle.nr_client.specs.Writing.EndsWritingOver.{FollowsInput, InputFails}
 use Rattle.nr_client.specs.Views.{LinkView}
 use Rattle.nr_service_laws.specs.Exchanges.{giving_up, lost_by, made_exchanges, read_exchanges, reading_end_exchanges, refused_by, step_exchanges, steps_exchanges, unanswered_exchanges, write_exchanges, write_exchanges_by}
 use Rattle.nr_service_laws.specs.Exchanges.Exchange.{GivenUp}
@@ -16,9 +16,10 @@ use Rattle.nr_service_laws.proofs.SeveralCalls.{does_any, does_follows, does_mad
 
 does_step : (uid gid : ℕ) (file : List ℕ) (s t : ReadingAt) (step : ReadStep uid gid file s t)
     → HasDone {A = Unit {0}} (Ok tt) s.link t.link (step_exchanges uid gid file s t step)
-does_step uid gid file s t (MakesAlone call outcome alone answers replies waits) = does_answers {A = Unit {0}} tt call outcome s.link t.link answers
+does_step uid gid file s t (MakesAlone call outcome alone answers replies waits) = does_answers {A = Unit {0}} tt call outcome s.link t.link answers.0
 does_step uid gid file s t (AsksAhead read ahead submits replies waits) = does_submits {A = Unit {0}} tt read.call read.xid s.link t.link submits
 does_step uid gid file s t (TakesOldest read outcome full is completes replies waits) = does_completes {A = Unit {0}} tt read.xid outcome s.link t.link completes
+does_step uid gid file s t (Looks looks replies waits) = does_none_at {A = Unit {0}} (Ok tt) s.link t.link looks
 
 pub does_steps : (uid gid : ℕ) (file : List ℕ) (first : ReadingAt) (states : List ReadingAt) (last : ReadingAt) (leads : LeadsBy uid gid file first states last)
     → HasDone {A = Unit {0}} (Ok tt) first.link last.link (steps_exchanges uid gid file first states last leads)

@@ -26,18 +26,17 @@ use Rattle.nr_links.specs.Limits.{read_max}
 use Rattle.nr_requester.specs.RequesterState.{RequesterSide, queue_of}
 use Rattle.nr_requester.specs.Answers.{answer_of}
 use Rattle.nr_requester.proofs.Accepting.{answers_as_client, counts_as_client}
-use Rattle.nr_client.specs.declared.call_end.CallEnd.{CallEnd}
-use Rattle.nr_client.specs.declared.call_end.CallEnd.TheVariants as calls
+use Rattle.nr_shared.specs.declared.call_end.CallEnd.{CallEnd}
+use Rattle.nr_shared.specs.declared.call_end.CallEnd.TheVariants as calls
 use Rattle.nr_client.specs.declared.client_end.ClientEnd.{ClientEnd}
 use Rattle.nr_client.specs.declared.client_end.ClientEnd.TheVariants as client
-use Rattle.nr_client.specs.Calls.{ForgetsCalls}
 use Rattle.nr_client.specs.Ending.{IsCauseIn, LinkCause}
 use Rattle.nr_client.specs.Following.{EndsWith, Follows, MakesCalls, Next, Unanswered}
 use Rattle.nr_client.specs.Following.Next.{Calls, Returns}
 use Rattle.nr_client.specs.Paths.{path_names}
-use Rattle.nr_client.specs.Reading.{EndsReading, InputFaults, OutputFaults, LeadsBy, OpenRead, ReadStep, ReadingAt, ReadsFile, reading, starts_at, xids_of}
-use Rattle.nr_client.specs.Reading.ReadStep.{MakesAlone, AsksAhead, TakesOldest}
-use Rattle.nr_client.specs.Reading.EndsReading.{EndsByReplies, OutputFails, NotAnswered, NotSubmitted, OldestForgotten}
+use Rattle.nr_client.specs.Reading.{ForgetsCalls, EndsReading, InputFaults, OutputFaults, LeadsBy, OpenRead, ReadStep, ReadingAt, ReadsFile, reading, starts_at, xids_of}
+use Rattle.nr_client.specs.Reading.ReadStepOver.{MakesAlone, AsksAhead, TakesOldest, Looks}
+use Rattle.nr_client.specs.Reading.EndsReadingOver.{EndsByReplies, OutputFails, NotAnswered, NotSubmitted, OldestForgotten}
 use Rattle.nr_client.specs.Requests.{Asks, create_result, mnt_call, mnt_result, symlink_call}
 use Rattle.nr_client.specs.Results.{Gives}
 use Rattle.nr_client.specs.Steps.{IsLive}
@@ -45,7 +44,7 @@ use Rattle.nr_client.specs.Transfers.{LinkBytes}
 use Rattle.nr_client.specs.Walking.{parent_next, walk_next}
 use Rattle.nr_client.proofs.Turns.{written_now}
 use Rattle.nr_client.specs.Writing.{EndsWriting, writing}
-use Rattle.nr_client.specs.Writing.EndsWriting.{FollowsInput, InputFails}
+use Rattle.nr_client.specs.Writing.EndsWritingOver.{FollowsInput, InputFails}
 use Rattle.nr_client.specs.Views.{LinkView}
 use Rattle.nr_commands.specs.Commands.{Finds, FindsParent, IsSilent, Mounts, ReadsOut, Symlinks, WritesIn}
 use Rattle.nr_commands.specs.Sessions.{Fails, Part, Request, Requests, SessionAt, Text as Prints, Then}
@@ -150,6 +149,8 @@ link_cause_at (calls.Ended end) b cause = inr cause
 link_cause_at calls.LinkRead b cause = cause
 link_cause_at calls.LinkWrite b cause = tt
 link_cause_at calls.Closed b cause = cause
+link_cause_at (calls.Tries n) b cause = absurd cause
+link_cause_at calls.DialFault b cause = absurd cause
 link_cause_at (calls.Spent left_over need) b cause = absurd cause
 link_cause_at (calls.TooLarge need room) b cause = absurd cause
 link_cause_at (calls.Budget count) b cause = cause
@@ -160,6 +161,8 @@ cause_at (calls.Ended end) b call cause = inr cause
 cause_at calls.LinkRead b call cause = cause
 cause_at calls.LinkWrite b call cause = tt
 cause_at calls.Closed b call cause = cause
+cause_at (calls.Tries n) b call cause = absurd cause
+cause_at calls.DialFault b call cause = absurd cause
 cause_at (calls.Spent left_over need) b call cause = (call, cause)
 cause_at (calls.TooLarge need room) b call cause = (call, cause)
 cause_at (calls.Budget count) b call cause = cause
@@ -270,6 +273,8 @@ cause_kept (calls.Ended end) v w same (inl is) = inl is
 cause_kept (calls.Ended end) v w same (inr is) = inr (same.ended ∙ is)
 cause_kept calls.LinkRead v w same (is, below) = (same.ended ∙ is, subst (λ (b : LinkBytes). b.read < read_max) (sym same.bytes) below)
 cause_kept calls.LinkWrite v w same cause = tt
+cause_kept (calls.Tries n) v w same wrong = absurd wrong
+cause_kept calls.DialFault v w same wrong = absurd wrong
 cause_kept calls.Closed v w same (is, (at_end, (below, (some, none)))) = (
   same.ended ∙ is,
   (
@@ -343,6 +348,10 @@ step_judged R uid gid file reads s t (TakesOldest read outcome full is completes
           (answers_more R (reading uid gid file) s.outcomes read.call outcome so_far.answers is (judged read.call all.0));
       waiting = all.1;
     }
+step_judged R uid gid file reads s t (Looks looks replies waits) so_far are = record {
+  answers = subst (λ (os : List Outcome). AreAnswers R (reading uid gid file) os) (sym replies) so_far.answers;
+  waiting = subst (λ (w : List OpenRead). AllOf reads w) (sym waits) so_far.waiting;
+}
 
 pub steps_judged : (R : Call → Outcome → Type 0) (uid gid : ℕ) (file : List ℕ) (reads : List OpenRead) (b : LinkView) (states : List ReadingAt) (last : ReadingAt) (leads : LeadsBy uid gid file (starts_at b) states last)
     → AreJudged R reads (steps_exchanges uid gid file (starts_at b) states last leads).made → IsReadSoFar R uid gid file (reads_after reads (steps_exchanges uid gid file (starts_at b) states last leads).made) last

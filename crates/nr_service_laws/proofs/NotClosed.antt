@@ -17,7 +17,7 @@ use Rattle.nr_laws.proofs.NeitherEnds.{matched_calls_complete}
 use Rattle.nr_laws.proofs.NoOldCalls.{no_old_call}
 use Rattle.nr_requester.specs.RequesterState.{RequesterSide}
 use Rattle.nr_requester.proofs.MaySubmit.{outstanding_as_client}
-use Rattle.nr_client.specs.declared.call_end.CallEnd.TheVariants as calls
+use Rattle.nr_shared.specs.declared.call_end.CallEnd.TheVariants as calls
 use Rattle.nr_client.specs.declared.client_end.ClientEnd.{ClientEnd}
 use Rattle.nr_client.specs.declared.client_end.ClientEnd.TheVariants as client
 use Rattle.nr_client.specs.Steps.{IsLive}

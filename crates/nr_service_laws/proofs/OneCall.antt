@@ -19,10 +19,11 @@ use Rattle.nr_reduce.specs.EndRules.{EndState}
 use Rattle.nr_reduce.specs.Run.{client, HasWritten, output_due}
 use Rattle.nr_reduce.proofs.Steps.{client_one, output_due_up_one}
 use Rattle.nr_requester.specs.RequesterState.{RequesterSide}
-use Rattle.nr_client.specs.declared.call_end.CallEnd.{CallEnd}
+use Rattle.nr_shared.specs.declared.call_end.CallEnd.{CallEnd}
 use Rattle.nr_client.specs.declared.client_end.ClientEnd.{ClientEnd}
 use Rattle.nr_client.specs.declared.client_end.ClientEnd.TheVariants as client
-use Rattle.nr_client.specs.Calls.{AddsForget, Answers, Completes, Forgets, ForgetsCalls, GivesUp, NoneCame, RefusesToSubmit, Submits}
+use Rattle.nr_client.specs.Calls.{AddsForget, Answers, Completes, Forgets, GivesUp, NoneCame, RefusesToSubmit, Submits}
+use Rattle.nr_client.specs.Reading.{ForgetsCalls}
 use Rattle.nr_client.specs.Steps.{HasWrittenAt, IsCutShort, IsLeft, IsLive, WholeIfWrote, WritesFirst, WritesInFull, WritesInFullTo, WritesNothing, WrittenIfFed}
 use Rattle.nr_client.specs.Transfers.{IsTransfer, LinkBytes, Moves}
 use Rattle.nr_client.specs.Views.{LinkView}

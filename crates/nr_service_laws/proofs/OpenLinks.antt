@@ -26,9 +26,9 @@ use Rattle.nr_laws.specs.Stays.{ConveyedMark, NotRevokedMark}
 use Rattle.nr_laws.proofs.NeitherEnds.{links_stay}
 use Rattle.nr_laws.proofs.NoOldCalls.{no_old_call}
 use Rattle.nr_requester.specs.RequesterState.{RequesterSide}
+use Rattle.nr_shared.specs.declared.call_end.CallEnd.TheVariants as calls
 use Rattle.nr_client.specs.declared.client_end.ClientEnd.{ClientEnd}
 use Rattle.nr_client.specs.declared.client_end.ClientEnd.TheVariants as client
-use Rattle.nr_client.specs.declared.call_end.CallEnd.TheVariants as calls
 use Rattle.nr_commands.specs.Running.Runs.{NotOpened, Opened}
 use Rattle.nr_service_laws.specs.ClientMarks.{IsOwn, StandsAt}
 use Rattle.nr_service_laws.specs.ServedCommands.{client_marks, is_client_mark}

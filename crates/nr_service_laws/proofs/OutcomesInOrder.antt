@@ -3,14 +3,14 @@ use Rattle.std.proofs.Common.{◌≡◌, ℕ, List, [], ◌∷◌, ◌++◌, map
 use Rattle.std.proofs.lemmas.Grind.{flat_map-append}
 use Rattle.nr_reduce.specs.declared.call.Call.{Call}
 use Rattle.nr_reduce.specs.declared.call.Outcome.{Outcome}
-use Rattle.nr_client.specs.declared.call_end.CallEnd.{CallEnd}
+use Rattle.nr_shared.specs.declared.call_end.CallEnd.{CallEnd}
 use Rattle.nr_client.specs.declared.client_end.ClientEnd.{ClientEnd}
 use Rattle.nr_client.specs.Calls.{GivesUp}
 use Rattle.nr_client.specs.Following.{EndsWith, MakesCalls, Next, Unanswered}
 use Rattle.nr_client.specs.Following.Next.{Calls, Returns}
 use Rattle.nr_client.specs.Reading.{EndsReading, LeadsBy, OpenRead, ReadStep, ReadingAt, starts_at, xids_of}
-use Rattle.nr_client.specs.Reading.ReadStep.{MakesAlone, AsksAhead, TakesOldest}
-use Rattle.nr_client.specs.Reading.EndsReading.{EndsByReplies, OutputFails, NotAnswered, NotSubmitted, OldestForgotten}
+use Rattle.nr_client.specs.Reading.ReadStepOver.{MakesAlone, AsksAhead, TakesOldest, Looks}
+use Rattle.nr_client.specs.Reading.EndsReadingOver.{EndsByReplies, OutputFails, NotAnswered, NotSubmitted, OldestForgotten}
 use Rattle.nr_client.specs.Views.{LinkView}
 use Rattle.nr_service_laws.specs.Exchanges.{Exchange, end_exchanges, exchange_outcomes, given_up_exchanges, made_exchanges, outcomes_in, reading_end_exchanges, step_exchanges, steps_exchanges, unanswered_exchanges}
 use Rattle.nr_service_laws.specs.Exchanges.Exchange.{GivenUp}
@@ -56,6 +56,7 @@ step_outcomes : (uid gid : ℕ) (file : List ℕ) (s t : ReadingAt) (step : Read
 step_outcomes uid gid file s t (MakesAlone call outcome alone answers replies waits) = sym replies
 step_outcomes uid gid file s t (AsksAhead read ahead submits replies waits) = append-nil s.outcomes ∙ sym replies
 step_outcomes uid gid file s t (TakesOldest read outcome full is completes replies waits) = sym replies
+step_outcomes uid gid file s t (Looks looks replies waits) = append-nil s.outcomes ∙ sym replies
 
 steps_outcomes : (uid gid : ℕ) (file : List ℕ) (first : ReadingAt) (states : List ReadingAt) (last : ReadingAt) (leads : LeadsBy uid gid file first states last)
     → first.outcomes ++ outcomes_in (steps_exchanges uid gid file first states last leads).made ≡ last.outcomes

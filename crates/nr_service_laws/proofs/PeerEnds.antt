@@ -4,7 +4,7 @@ use Rattle.nr_outside.specs.Faults.{Rises}
 use Rattle.nr_outside.specs.Streams.{SinkAt, SourceAt}
 use Rattle.nr_words.specs.Lines.{Text}
 use Rattle.nr_words.specs.declared.commands.Client.{Client}
-use Rattle.nr_client.specs.declared.call_end.CallEnd.TheVariants as calls
+use Rattle.nr_shared.specs.declared.call_end.CallEnd.TheVariants as calls
 use Rattle.nr_client.specs.declared.client_end.ClientEnd.{ClientEnd}
 use Rattle.nr_client.specs.declared.client_end.ClientEnd.TheVariants as client
 use Rattle.nr_commands.specs.Running.Runs.{NotOpened, Opened}
@@ -23,6 +23,8 @@ says c made s s' input input' out out' (client.Link (calls.Ended end)) counts gi
 says c made s s' input input' out out' (client.Link calls.LinkRead) counts given = (counts.0, given)
 says c made s s' input input' out out' (client.Link calls.LinkWrite) counts given = counts.1
 says c made s s' input input' out out' (client.Link calls.Closed) counts given = given
+says c made s s' input input' out out' (client.Link (calls.Tries n)) counts given = given
+says c made s s' input input' out out' (client.Link calls.DialFault) counts given = given
 says c made s s' input input' out out' (client.Link (calls.Spent left_over need)) counts given = given
 says c made s s' input input' out out' (client.Link (calls.TooLarge need room)) counts given = given
 says c made s s' input input' out out' (client.Link (calls.Budget count)) counts given = given

@@ -11,11 +11,12 @@ use Rattle.nr_client.specs.declared.client_end.ClientEnd.TheVariants as client
 use Rattle.nr_client.specs.Following.{EndsWith, Follows, Next, Unanswered}
 use Rattle.nr_client.specs.Following.Next.{Calls, Returns}
 use Rattle.nr_client.specs.Reading.{EndsReading, OpenRead, ReadingAt, ReadsFile, reading}
-use Rattle.nr_client.specs.Reading.EndsReading.{EndsByReplies, OutputFails, NotAnswered, NotSubmitted, OldestForgotten}
+use Rattle.nr_client.specs.Reading.EndsReadingOver.{EndsByReplies, OutputFails, NotAnswered, NotSubmitted, OldestForgotten}
 use Rattle.nr_client.specs.Requests.{Asks, create_result, mnt_call, mnt_result, symlink_call}
 use Rattle.nr_client.specs.Walking.{parent_next, walk_next}
 use Rattle.nr_client.specs.Writing.{EndsWriting, writing}
-use Rattle.nr_client.specs.Writing.EndsWriting.{FollowsInput, InputFails}
+use Rattle.nr_client.specs.Writing.EndsWritingOver.{FollowsInput, InputFails}
+use Rattle.nr_client.proofs.LinkRelations.{both_counts}
 use Rattle.nr_commands.specs.Commands.{Finds, FindsParent, IsSilent, Mounts, ReadsOut, Symlinks, WritesIn}
 use Rattle.nr_commands.specs.Sessions.{CountsFaults, Fails, Part, Request, Requests, SessionAt, Text as Prints, Then}
 use Rattle.nr_client.specs.Requests.{SinkFaults, SourceFaults}
@@ -127,10 +128,10 @@ part_text text s s' (Ok t) (same, is) = (same_counts s s' same, λ are. tt)
 part_text text s s' (Err end) (same, is) = subst (λ (e : ClientEnd). IsFine [] {A = List ℕ} s s' (Err e)) (sym is) (same_counts s s' same, λ are. tt)
 
 pub part_request : {A : Type 0} (reads : Outcome → Result A ClientEnd) (call : Call) → ReadsReplies reads → PartFine (Request reads call) (tells_request reads call)
-part_request reads call fine s s' result is = (is.1, λ are. asks_fine reads call s s' result is.0 fine are)
+part_request reads call fine s s' result is = (both_counts result s s' is.1, λ are. asks_fine reads call s s' result is.0 fine are)
 
 pub part_requests : {A : Type 0} (request : List Outcome → Next A) → RequestFine request → PartFine (Requests request) (tells_requests request)
-part_requests request fine s s' result is = (is.1, λ are. follows_fine request s s' result is.0 fine are)
+part_requests request fine s s' result is = (both_counts result s s' is.1, λ are. follows_fine request s s' result is.0 fine are)
 
 pub part_then : {A B : Type 0} (first : Part A) (next : A → Part B) (exchanges : Tells first) (later : (value : A) → Tells (next value)) → PartFine first exchanges → ((value : A) → PartFine (next value) (later value))
     → PartFine (Then first next) (tells_then first next exchanges later)
@@ -182,9 +183,9 @@ silent_fine handed_over s s' (Err end) (Err why) silent fine =
 pub part_reads_out : (uid gid : ℕ) (file : List ℕ) (out out' : SinkAt) → PartFine (ReadsOut uid gid file out out') (tells_reads_out uid gid file out out')
 part_reads_out uid gid file out out' s s' text (done, ((reads, counts), silent)) =
     silent_fine (outcomes_in (tells_reads_out uid gid file out out' s s' text (done, ((reads, counts), silent))).made) s s' done text silent
-    (counts.1, λ are. reads_fine uid gid file s s' out.taken out'.taken done reads are)
+    (both_counts done s s' counts.1, λ are. reads_fine uid gid file s s' out.taken out'.taken done reads are)
 
 pub part_writes_in : (uid gid : ℕ) (dir name : List ℕ) (input input' : SourceAt) → PartFine (WritesIn uid gid dir name input input') (tells_writes_in uid gid dir name input input')
 part_writes_in uid gid dir name input input' s s' text (done, ((writes, counts), silent)) =
     silent_fine (outcomes_in (tells_writes_in uid gid dir name input input' s s' text (done, ((writes, counts), silent))).made) s s' done text silent
-    (counts.1, λ are. writes_fine uid gid dir name writes.handed writes.rest s s' done writes.calls are)
+    (both_counts done s s' counts.1, λ are. writes_fine uid gid dir name writes.handed writes.rest s s' done writes.calls are)

@@ -15,7 +15,7 @@ use Rattle.nr_reduce.proofs.SoFarLaws.{AtEachMark_each, served_mark}
 use Rattle.nr_laws.specs.EndCauses.{KeepLaws}
 use Rattle.nr_laws.specs.MatchedSoFar.{MatchedSoFar}
 use Rattle.nr_laws.proofs.NoOldCalls.{no_old_call}
-use Rattle.nr_client.specs.declared.call_end.CallEnd.TheVariants as calls
+use Rattle.nr_shared.specs.declared.call_end.CallEnd.TheVariants as calls
 use Rattle.nr_client.specs.declared.client_end.ClientEnd.{ClientEnd}
 use Rattle.nr_client.specs.declared.client_end.ClientEnd.TheVariants as client
 use Rattle.nr_client.specs.Steps.{WritesInFull}

@@ -32,7 +32,7 @@ does_unanswered {A} call b c end (inr (is, same)) = does_none_at {A = A} (Err en
 pub does_asks : {A : Type 0} (reads : Outcome → Result A ClientEnd) (call : Call) (b c : LinkView) (result : Result A ClientEnd) (asks : Asks reads call b c result)
     → HasDone result b c (asked_exchanges reads call b c result asks)
 does_asks reads call b c result (inl (outcome, (answers, gives))) =
-    does_any result b c (one (Answered call outcome)) (does_answers {A = Unit {0}} tt call outcome b c answers)
+    does_any result b c (one (Answered call outcome)) (does_answers {A = Unit {0}} tt call outcome b c answers.0)
 does_asks {A} reads call b c result (inr (inl (cause, (is, (gives_up, why))))) =
     subst (λ (r : Result A ClientEnd). HasDone r b c (asked_exchanges reads call b c result (inr (inl (cause, (is, (gives_up, why))))))) (sym is)
     (does_gives_up {A = A} call cause b c gives_up)
@@ -44,7 +44,7 @@ pub does_made : {A : Type 0} (request : List Outcome → Next A) (outcomes : Lis
 does_made request [] b c made = does_none_at {A = Unit {0}} (Ok tt) b c made
 does_made request (outcome ∷ outcomes) b c (call, d, (is, (answers, rest))) =
     does_both {A = Unit {0}} {B = Unit {0}} tt (Ok tt) b d c (one (Answered call outcome)) (made_exchanges (λ later. request (outcome ∷ later)) outcomes d c rest)
-    (does_answers {A = Unit {0}} tt call outcome b d answers)
+    (does_answers {A = Unit {0}} tt call outcome b d answers.0)
     (does_made (λ later. request (outcome ∷ later)) outcomes d c rest)
 
 pub does_end : {A : Type 0} (next : Next A) (b c : LinkView) (given : Result A ClientEnd) (ends : EndsWith next b c given)

@@ -19,7 +19,7 @@ use Rattle.nr_plain.specs.ReplyLaws.{plain_server}
 use Rattle.nr_plain.specs.Setup.{Setup}
 use Rattle.nr_words.specs.Lines.{Text}
 use Rattle.nr_words.specs.declared.commands.Client.{Client}
-use Rattle.nr_client.specs.declared.call_end.CallEnd.TheVariants as calls
+use Rattle.nr_shared.specs.declared.call_end.CallEnd.TheVariants as calls
 use Rattle.nr_client.specs.declared.client_end.ClientEnd.{ClientEnd}
 use Rattle.nr_client.specs.declared.client_end.ClientEnd.TheVariants as client
 use Rattle.nr_client.specs.Dialing.{DialerAt, session_credits}
@@ -55,6 +55,8 @@ EndsForCause (client.Link (calls.Ended end)) s s' input input' out out' = end �
 EndsForCause (client.Link calls.LinkRead) s s' input input' out out' = Rises s.source_faults s'.source_faults
 EndsForCause (client.Link calls.LinkWrite) s s' input input' out out' = Rises s.sink_faults s'.sink_faults
 EndsForCause (client.Link calls.Closed) s s' input input' out out' = IsAtEnd s'.bytes.left
+EndsForCause (client.Link (calls.Tries n)) s s' input input' out out' = ⊥
+EndsForCause (client.Link calls.DialFault) s s' input input' out out' = ⊥
 EndsForCause (client.Link (calls.Spent left_over need)) s s' input input' out out' = ⊤
 EndsForCause (client.Link (calls.TooLarge need room)) s s' input input' out out' = ⊤
 EndsForCause (client.Link (calls.Budget count)) s s' input input' out out' = ⊤

@@ -19,8 +19,8 @@ use Rattle.nr_requester.specs.Answers.{answer_of}
 use Rattle.nr_requester.specs.RequesterState.{RequesterSide, queue_of}
 use Rattle.nr_words.specs.Lines.{Text}
 use Rattle.nr_words.specs.declared.commands.Client.{Client}
-use Rattle.nr_client.specs.declared.call_end.CallEnd.{CallEnd}
-use Rattle.nr_client.specs.declared.call_end.CallEnd.TheVariants as calls
+use Rattle.nr_shared.specs.declared.call_end.CallEnd.{CallEnd}
+use Rattle.nr_shared.specs.declared.call_end.CallEnd.TheVariants as calls
 use Rattle.nr_client.specs.declared.client_end.ClientEnd.{ClientEnd}
 use Rattle.nr_client.specs.declared.client_end.ClientEnd.TheVariants as client
 use Rattle.nr_client.specs.Dialing.{DialerAt}
@@ -41,6 +41,8 @@ CauseAt (calls.Ended end) v = (end ≡ ends.Memory) ⊎ (v.requester.state.side.
 CauseAt calls.LinkRead v = (v.requester.state.side.ended ≡ None) × (v.bytes.read < read_max)
 CauseAt calls.LinkWrite v = ⊤
 CauseAt calls.Closed v = (v.requester.state.side.ended ≡ None) × (IsAtEnd v.bytes.left × ((v.bytes.read < read_max) × ((0 < length v.requester.state.outstanding) × (queue_of v.requester.state ≡ []))))
+CauseAt (calls.Tries n) v = ⊥
+CauseAt calls.DialFault v = ⊥
 CauseAt (calls.Spent left_over need) v = RefusesOne v.requester (refusals.Spent left_over need)
 CauseAt (calls.TooLarge need room) v = RefusesOne v.requester (refusals.TooLarge need room)
 CauseAt (calls.Budget count) v = (v.requester.state.side.ended ≡ None) × ((count ≡ read_max) × (v.bytes.read ≡ read_max))

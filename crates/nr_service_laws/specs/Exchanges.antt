@@ -10,21 +10,21 @@ use Rattle.nr_words.specs.declared.commands.Action.{Action}
 use Rattle.nr_words.specs.declared.commands.Action.TheVariants as actions
 use Rattle.nr_reduce.specs.declared.call.Call.{Call}
 use Rattle.nr_reduce.specs.declared.call.Outcome.{Outcome}
+use Rattle.nr_shared.specs.declared.call_end.CallEnd.{CallEnd}
 use Rattle.nr_client.specs.declared.client_end.ClientEnd.{ClientEnd}
 use Rattle.nr_client.specs.declared.client_end.ClientEnd.TheVariants as client
-use Rattle.nr_client.specs.declared.call_end.CallEnd.{CallEnd}
 use Rattle.nr_client.specs.Calls.{GivesUp}
 use Rattle.nr_client.specs.Following.{EndsWith, Follows, MakesCalls, Next, Unanswered}
 use Rattle.nr_client.specs.Following.Next.{Calls, Returns}
 use Rattle.nr_client.specs.Listing.{list_next}
 use Rattle.nr_client.specs.Reading.{EndsReading, LeadsBy, OpenRead, ReadStep, ReadingAt, ReadsFile, starts_at, xids_of}
-use Rattle.nr_client.specs.Reading.ReadStep.{MakesAlone, AsksAhead, TakesOldest}
-use Rattle.nr_client.specs.Reading.EndsReading.{EndsByReplies, OutputFails, NotAnswered, NotSubmitted, OldestForgotten}
+use Rattle.nr_client.specs.Reading.ReadStepOver.{MakesAlone, AsksAhead, TakesOldest, Looks}
+use Rattle.nr_client.specs.Reading.EndsReadingOver.{EndsByReplies, OutputFails, NotAnswered, NotSubmitted, OldestForgotten}
 use Rattle.nr_client.specs.Requests.{Asks, create_result, getattr_call, getattr_result, mkdir_call, mnt_call, mnt_result, readlink_call, readlink_result, remove_call, remove_result, symlink_call}
 use Rattle.nr_client.specs.Views.{LinkView}
 use Rattle.nr_client.specs.Walking.{parent_next, walk_next}
 use Rattle.nr_client.specs.Writing.{EndsWriting, WritesFile, writing}
-use Rattle.nr_client.specs.Writing.EndsWriting.{FollowsInput, InputFails}
+use Rattle.nr_client.specs.Writing.EndsWritingOver.{FollowsInput, InputFails}
 use Rattle.nr_commands.specs.Commands.{Finds, FindsParent, Gets, Lists, MakesDirectory, MakesSymlink, Mounts, MountsAndPrints, Puts, ReadsLink, ReadsOut, Removes, Stats, Symlinks, WritesIn}
 use Rattle.nr_commands.specs.Printed.{attributes_text, handle_text, names_text, path_text}
 use Rattle.nr_commands.specs.Running.{text_of}
@@ -127,6 +127,7 @@ abbrev pub step_exchanges : (uid gid : ℕ) (file : List ℕ) (s t : ReadingAt) 
 step_exchanges uid gid file s t (MakesAlone call outcome alone answers replies waits) = one (Answered call outcome)
 step_exchanges uid gid file s t (AsksAhead read ahead submits replies waits) = one (Submitted read.xid read.call)
 step_exchanges uid gid file s t (TakesOldest read outcome full is completes replies waits) = one (HandedOver read.xid outcome)
+step_exchanges uid gid file s t (Looks looks replies waits) = none
 
 abbrev pub steps_exchanges : (uid gid : ℕ) (file : List ℕ) (first : ReadingAt) (states : List ReadingAt) (last : ReadingAt) → LeadsBy uid gid file first states last → Exchanges
 steps_exchanges uid gid file first [] last same = none

@@ -23,7 +23,7 @@ use Rattle.nr_laws.specs.PlainLinks.{HasPlainReplies, server_with}
 use Rattle.nr_laws.specs.Typed.{IsTyped}
 use Rattle.nr_words.specs.Lines.{Text}
 use Rattle.nr_words.specs.declared.commands.Client.{Client}
-use Rattle.nr_client.specs.declared.call_end.CallEnd.TheVariants as calls
+use Rattle.nr_shared.specs.declared.call_end.CallEnd.TheVariants as calls
 use Rattle.nr_client.specs.declared.client_end.ClientEnd.{ClientEnd}
 use Rattle.nr_client.specs.declared.client_end.ClientEnd.TheVariants as client
 use Rattle.nr_client.specs.Dialing.{DialerAt}

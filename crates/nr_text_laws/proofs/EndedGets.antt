@@ -31,7 +31,7 @@ use Rattle.nr_client.specs.Following.{Next, go_on}
 use Rattle.nr_client.specs.Following.Next.{Calls, Returns}
 use Rattle.nr_client.specs.Paths.{path_names}
 use Rattle.nr_client.specs.Reading.{EndsReading, FileRead, OpenRead, ReadsFile, after_reply, next_read, offset_after, piece_left, read_call, read_result, reading, starts_at, with_data, with_size}
-use Rattle.nr_client.specs.Reading.EndsReading.{EndsByReplies, NotAnswered, NotSubmitted, OldestForgotten, OutputFails}
+use Rattle.nr_client.specs.Reading.EndsReadingOver.{EndsByReplies, NotAnswered, NotSubmitted, OldestForgotten, OutputFails}
 use Rattle.nr_client.specs.Reading.FileRead.{NothingKnown, ReadEnds, SizeKnown}
 use Rattle.nr_client.specs.Requests.{getattr_result, machine}
 use Rattle.nr_client.specs.Walking.{walk_from, walk_next}

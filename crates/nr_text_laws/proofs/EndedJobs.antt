@@ -26,7 +26,6 @@ use Rattle.nr_client.specs.Paths.{path_names}
 use Rattle.nr_client.specs.Reading.{offset_after, piece_left, read_call, read_result, reading, with_data, with_size}
 use Rattle.nr_client.specs.Reading.FileRead.{NothingKnown, SizeKnown}
 use Rattle.nr_client.specs.Requests.{Asks, getattr_call, getattr_result}
-use Rattle.nr_client.specs.Shared.{shared_end}
 use Rattle.nr_commands.specs.ByJobs.{link_of}
 use Rattle.nr_commands.specs.ByJobs.GetsByJobs.{Found, NotFound, NotOpened}
 use Rattle.nr_commands.specs.Commands.{Finds}
@@ -255,7 +254,7 @@ module _ (s : Setup) (J : List Entry) (uid gid : ℕ) (ids : AreIds uid gid) (na
         by (inl (inl (inr is, takes))) = refused is
         by (inl (inr (fault, takes))) = OutputFailed (let this : end ≡ client.OutputFault = cc in this)
         by (inr (c, why, (is, (link_end, rest)))) =
-            let this : end ≡ client.Link (shared_end why) = cc in
+            let this : end ≡ client.Link why = cc in
             Unanswered (subst (λ (e : ClientEnd). IsUnanswered {A = List ℕ} (Err e)) (sym this) tt)
 
 pub ends_of_jobs_have_causes_lem : EndsOfJobsHaveCauses

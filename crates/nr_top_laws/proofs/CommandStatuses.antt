@@ -4,7 +4,7 @@ use Rattle.std.specs.Prelude.{◌⊎◌, MatchBool}
 use Rattle.std.specs.Io.KnownBytes.{IsAtEnd}
 use Rattle.nr_outside.specs.Faults.{Rises}
 use Rattle.nr_outside.specs.Streams.{SinkAt}
-use Rattle.nr_client.specs.declared.call_end.CallEnd.TheVariants as calls
+use Rattle.nr_shared.specs.declared.call_end.CallEnd.TheVariants as calls
 use Rattle.nr_client.specs.declared.client_end.ClientEnd.{ClientEnd}
 use Rattle.nr_client.specs.declared.client_end.ClientEnd.TheVariants as client
 use Rattle.nr_commands.specs.Running.Runs.{NotOpened, Opened}
@@ -24,6 +24,8 @@ status_by (client.Link (calls.Ended end)) left is = inl (inr (inl (ap link_statu
 status_by (client.Link calls.LinkRead) left is = absurd is
 status_by (client.Link calls.LinkWrite) left is = absurd is
 status_by (client.Link calls.Closed) left is = inr (refl, is)
+status_by (client.Link (calls.Tries n)) left is = absurd is
+status_by (client.Link calls.DialFault) left is = absurd is
 status_by (client.Link (calls.Spent left_over need)) left is = inl (inr (inr (inr (inr (inr refl)))))
 status_by (client.Link (calls.TooLarge need room)) left is = inl (inr (inr (inr (inr (inr refl)))))
 status_by (client.Link (calls.Budget count)) left is = inl (inr (inr (inr (inr (inr refl)))))

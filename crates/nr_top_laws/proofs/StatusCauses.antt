@@ -8,7 +8,7 @@ use Rattle.nr_link.specs.declared.end.End.TheVariants as ends
 use Rattle.nr_reduce.specs.declared.call.Refused.TheVariants as refusals
 use Rattle.nr_words.specs.Lines.{Text}
 use Rattle.nr_words.specs.declared.commands.Client.{Client}
-use Rattle.nr_client.specs.declared.call_end.CallEnd.TheVariants as calls
+use Rattle.nr_shared.specs.declared.call_end.CallEnd.TheVariants as calls
 use Rattle.nr_client.specs.declared.client_end.ClientEnd.{ClientEnd}
 use Rattle.nr_client.specs.declared.client_end.ClientEnd.TheVariants as client
 use Rattle.nr_client.specs.Dialing.{DialerAt, OpenFails}
@@ -58,6 +58,8 @@ module _ (c : Client Text) (dialer dialer' : DialerAt) (input input' : SourceAt)
   says (client.Link calls.LinkRead) s s' made is source sink = LinkFault refl (inr (source is.0))
   says (client.Link calls.LinkWrite) s s' made is source sink = LinkFault refl (inr (sink is))
   says (client.Link calls.Closed) s s' made is source sink = LinkClosed refl refl (is.1.0, is.1.1.1.0)
+  says (client.Link (calls.Tries n)) s s' made is source sink = absurd is
+  says (client.Link calls.DialFault) s s' made is source sink = absurd is
   says (client.Link (calls.Spent left_over need)) s s' made is source sink = NotSubmitted refl (refusals.Spent left_over need) refl is
   says (client.Link (calls.TooLarge need room)) s s' made is source sink = NotSubmitted refl (refusals.TooLarge need room) refl is
   says (client.Link (calls.Budget count)) s s' made is source sink = LinkIsRead refl (ap (λ (n : ℕ). client.Link (calls.Budget n)) is.1.0) is.1.1

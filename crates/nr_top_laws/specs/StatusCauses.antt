@@ -12,7 +12,7 @@ use Rattle.nr_nfs_base.specs.declared.mount_status.MountStatus.{MountStatus}
 use Rattle.nr_nfs_base.specs.declared.status.Status.{Status}
 use Rattle.nr_words.specs.Lines.{Text}
 use Rattle.nr_words.specs.declared.commands.Client.{Client}
-use Rattle.nr_client.specs.declared.call_end.CallEnd.TheVariants as calls
+use Rattle.nr_shared.specs.declared.call_end.CallEnd.TheVariants as calls
 use Rattle.nr_client.specs.declared.client_end.ClientEnd.{ClientEnd}
 use Rattle.nr_client.specs.declared.client_end.ClientEnd.TheVariants as client
 use Rattle.nr_client.specs.declared.client_end.RpcKind.{RpcKind}

@@ -1,5 +1,6 @@
 -- The initial history of a requester that was just opened.
-use Rattle.std.proofs.Common.{◌≡◌, ℕ, arith, List, [], ◌∷◌, Option, None, Some, refl, sym, ap, ◌∙◌}
+use Rattle.std.proofs.Common.{◌≡◌, ◌≢◌, ◌<◌, ◌≤◌, ℕ, arith, List, [], ◌∷◌, Option, None, Some, refl, sym, ap, subst, ◌∙◌}
+use Rattle.nr_link.specs.declared.agreement.SideTerms.{SideTerms}
 use Rattle.nr_link.specs.Agreement.{default_terms}
 use Rattle.nr_link.specs.declared.end.End.TheVariants as ends
 use Rattle.nr_requester.specs.RequesterState.{RequesterSide}
@@ -11,18 +12,29 @@ use Rattle.nr_shared.specs.Opening.{IsInitialHistory}
 none_some : None ≡ Some ends.Memory → ⊥
 none_some e = absurd cc
 
-fresh : (r : RequesterSide) → r ≡ opened_as 1 1 16 default_terms r.staging → r.state.side.ended ≡ None
+fresh : (terms : SideTerms) (r : RequesterSide) → r ≡ opened_as 1 1 16 terms r.staging → r.state.side.ended ≡ None
 unfolding opened_as
-fresh r state = ap (λ (h : RequesterSide). h.state.side.ended) state
+fresh terms r state = ap (λ (h : RequesterSide). h.state.side.ended) state
 
-pub is_initial_history : {O : Type 0} (taken : O → Option (List ℕ)) (faults : O → ℕ) (r : RequesterSide) (sink : O) → r ≡ opened_as 1 1 16 default_terms r.staging → fed_bytes r ≡ 0
-    → IsInitialHistory taken faults r sink (entries.Initial (record { requester = r; faults = faults sink; taken = taken sink }) ∷ [])
-is_initial_history taken faults r sink state fed = record {
-  initial = record { requester = r; faults = faults sink; taken = taken sink };
+pub has_memory : (terms : SideTerms) (r : RequesterSide) → r ≡ opened_as 1 1 16 terms r.staging → r.state.side.ended ≢ Some ends.Memory
+has_memory terms r state bad = none_some (sym (fresh terms r state) ∙ bad)
+
+pub has_number : (terms : SideTerms) (r : RequesterSide) → 0 < terms.number → r ≡ opened_as 1 1 16 terms r.staging → 0 < r.state.side.terms.number
+unfolding opened_as
+has_number terms r is state = subst (λ (n : ℕ). 0 < n) (sym (ap (λ (h : RequesterSide). h.state.side.terms.number) state)) is
+
+pub is_initial_history : {O : Type 0} (link : O → ℕ) (taken : O → Option (List ℕ)) (faults : O → ℕ) (r : RequesterSide) (sink : O) → r ≡ opened_as 1 1 16 default_terms r.staging → fed_bytes r ≡ 0
+    → IsInitialHistory link taken faults r sink None (entries.Initial (record { requester = r; sink = record { link = link sink; faults = faults sink; taken = taken sink }; tries = None }) ∷ [])
+is_initial_history link taken faults r sink state fed = record {
+  initial = record { requester = r; sink = record { link = link sink; faults = faults sink; taken = taken sink }; tries = None };
   history_is = refl;
   requester_is = refl;
-  has_memory = λ bad. none_some (sym (fresh r state) ∙ bad);
+  has_memory = has_memory default_terms r state;
   fed = omega (arith, fed);
+  sink_link = refl;
   sink_taken = refl;
   sink_faults = refl;
+  tries_are = refl;
+  numbered = tt;
+  few = refl;
 }

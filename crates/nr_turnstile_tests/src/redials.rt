@@ -1,6 +1,8 @@
 //! Tests of `nr_shared`: NULL calls of a requester with a number, whose link is lost and dialled again, over links in memory.
 
-ghost use Rattle.nr_rpc.specs.Credential.{CanWriteCred};
+ghost use Rattle.std.specs.Prelude.{◌≡◌, ◌≢◌, ◌<◌, ◌≤◌, Some};
+ghost use Rattle.nr_link.specs.declared.end.End.TheVariants as ends;
+ghost use Rattle.nr_requester.specs.Fed.{fed_bytes};
 ghost use Rattle.nr_shared.specs.Sharing.{SharedRests};
 
 use crate::compare::same;
@@ -311,7 +313,16 @@ fn dialer(
     }
 }
 
-/// A requester of 16 credits with the number 5, which is shared over links of this dialer.
+/// A requester of 16 credits with the number 5.
+fn numbered(rt: &impl Abort, alloc: Global) -> Requester
+    ensures number { 0 < result.state.side.terms.number }
+    ensures memory { result.state.side.ended ≢ Some ends.Memory }
+    ensures fed { fed_bytes result ≡ 0 }
+{
+    Requester::open_numbered(alloc, 5, 16, 1, false).expect(rt, "memory")
+}
+
+/// A requester with a number, which is shared over links of this dialer.
 fn share(
     rt: &(impl Abort + Wait),
     alloc: Global,
@@ -321,7 +332,7 @@ fn share(
     requires { tries ≤ 16 }
     ensures { SharedRests result.0 result.1 }
 {
-    let requester = Requester::open_numbered(alloc, 5, 16, 1, false).expect(rt, "memory");
+    let requester = numbered(rt, alloc);
     match Redialled::new_numbered(rt, alloc, requester, dialer, ADDR, tries) {
         Ok(opened) => opened,
         Err(_) => panic!(rt; "not shared"),
@@ -340,6 +351,9 @@ fn called(rt: &(impl Abort + Wait), alloc: Global, row: usize, case: &Row) {
     same(rt, row, got, *want);
     let (_, link, dialer) = shared.close(rt, pass);
     same(rt, row, dialer.inner.asked().len(), *made);
+    for asked in dialer.inner.asked() {
+        same(rt, row, asked.as_slice() == ADDR.as_bytes(), true);
+    }
     same(rt, row, dialer.inner.ended().len(), *hung_up);
     same(rt, row, link.is_some(), *has_link);
 }
@@ -354,7 +368,7 @@ fn links_are_dialled_again(rt: HostRuntime) {
 /// The requester and the dialer come back.
 #[test]
 fn the_first_dial_fails(rt: HostRuntime) {
-    let requester = Requester::open_numbered(rt.alloc(), 5, 16, 1, false).expect(&rt, "memory");
+    let requester = numbered(&rt, rt.alloc());
     let peer = Arc::new(rt.alloc(), Peer::new()).expect(&rt, "memory");
     let dialer = dialer(&rt, rt.alloc(), &[], &[0], peer, 1024);
     match Redialled::new_numbered(&rt, rt.alloc(), requester, dialer, ADDR, 3) {

@@ -6,6 +6,8 @@ use Rattle.std.proofs.lemmas.Bool.{eqb-true, false≢true}
 use Rattle.std.proofs.lemmas.Option.{option_and_then_some, same_Some, none-some}
 use Rattle.nr_words.specs.declared.commands.Command.{Command}
 use Rattle.nr_words.specs.declared.commands.Command.TheVariants as commands
+use Rattle.nr_words.specs.declared.commands.Client.{Client}
+use Rattle.nr_words.specs.declared.commands.GetByJobs.{GetByJobs}
 use Rattle.nr_words.specs.declared.commands.Action.{Action}
 use Rattle.nr_words.specs.declared.commands.Action.TheVariants as actions
 use Rattle.nr_words.specs.declared.lines.Subcommand.{Subcommand}
@@ -15,42 +17,44 @@ use Rattle.nr_words.specs.declared.options.OptionName.TheVariants as option_name
 use Rattle.nr_words.specs.declared.options.Options.{Options}
 use Rattle.nr_words.specs.declared.lines.Positionals.{Positionals}
 use Rattle.nr_words.specs.declared.lines.State.{State}
-use Rattle.nr_words.specs.Limits.{calls_max, clients_max, default_jobs, default_units, jobs_max, units_max}
+use Rattle.nr_words.specs.Limits.{calls_max, client_number_max, clients_max, default_jobs, default_units, jobs_max, tries_max, units_max}
 use Rattle.nr_words.specs.Numbers.{has_leading_zero, number_within, numeral_within, value_after, within}
-use Rattle.nr_words.specs.Lines.{Text, after_free_word, after_name, after_word, arity, by_jobs, client, complete, drill_of, finished, get_of, is_positional, line_of, once, option_named, start, step, steps, subcommand_named, takes, with_invalidate, with_log, with_positional, with_value}
-use Rattle.nr_words.specs.Reads.{are_jobs, are_units, is_action, is_command}
+use Rattle.nr_words.specs.Lines.{Text, after_free_word, after_name, after_word, arity, by_jobs, client, client_of, complete, drill_of, finished, get_of, is_positional, line_of, once, option_named, start, step, steps, subcommand_named, takes, with_invalidate, with_log, with_number, with_positional, with_value, without_number}
+use Rattle.nr_words.specs.Reads.{are_jobs, are_tries, are_units, is_action, is_client, is_command, is_number}
 
 -- ---- Numbers in their ranges
 
-abbrev InRange : ℕ → Option ℕ → Type 0
-InRange high None = Unit {0}
-InRange high (Some n) = (1 ≤ n) × (n ≤ high)
+abbrev InRange : (low high : ℕ) → Option ℕ → Type 0
+InRange low high None = Unit {0}
+InRange low high (Some n) = (low ≤ n) × (n ≤ high)
 
-within_fits : (high : ℕ) (value : Option ℕ) → InRange high (within 1 high value)
-within_fits high None = tt
-within_fits high (Some n) = by (nat_le 1 n) (nat_le n high) refl refl
+within_fits : (low high : ℕ) (value : Option ℕ) → InRange low high (within low high value)
+within_fits low high None = tt
+within_fits low high (Some n) = by (nat_le low n) (nat_le n high) refl refl
   where
-    by : (a b : Bool) → nat_le 1 n ≡ a → nat_le n high ≡ b → InRange high (cond (a && b) (Some n) None)
+    by : (a b : Bool) → nat_le low n ≡ a → nat_le n high ≡ b → InRange low high (cond (a && b) (Some n) None)
     by true true p q = grind (arith, nat_tests, p, q)
     by true false p q = tt
     by false b p q = tt
 
-number_fits : (high : ℕ) (text : Text) → InRange high (number_within 1 high text)
-number_fits high [] = tt
-number_fits high (byte ∷ bytes) = within_fits high (value_after 0 (byte ∷ bytes))
+number_fits : (low high : ℕ) (text : Text) → InRange low high (number_within low high text)
+number_fits low high [] = tt
+number_fits low high (byte ∷ bytes) = within_fits low high (value_after 0 (byte ∷ bytes))
 
-numeral_fits : (high : ℕ) (text : Text) → InRange high (numeral_within 1 high text)
-numeral_fits high text = by (has_leading_zero text)
+numeral_fits : (low high : ℕ) (text : Text) → InRange low high (numeral_within low high text)
+numeral_fits low high text = by (has_leading_zero text)
   where
-    by : (b : Bool) → InRange high (cond b None (number_within 1 high text))
+    by : (b : Bool) → InRange low high (cond b None (number_within low high text))
     by true = tt
-    by false = number_fits high text
+    by false = number_fits low high text
 
 record OptionsFit (o : Options) : Type 0 where
-  inline : InRange units_max o.inline
-  jobs : InRange jobs_max o.jobs
-  clients : InRange clients_max o.clients
-  calls : InRange calls_max o.calls
+  inline : InRange 1 units_max o.inline
+  number : InRange 1 client_number_max o.number
+  tries : InRange 0 tries_max o.tries
+  jobs : InRange 1 jobs_max o.jobs
+  clients : InRange 1 clients_max o.clients
+  calls : InRange 1 calls_max o.calls
 
 once_fits : (old value : Option ℕ) (with_number : ℕ → Options) (o : Options) → once old value with_number ≡ Some o → ((n : ℕ) → value ≡ Some n → OptionsFit (with_number n)) → OptionsFit o
 once_fits None (Some n) with_number o e f = subst OptionsFit (same_Some _ _ e) (f n refl)
@@ -58,14 +62,16 @@ once_fits None None with_number o e f = absurd (none-some _ e)
 once_fits (Some m) value with_number o e f = absurd (none-some _ e)
 
 value_fits : (o : Options) (name : OptionName) (word : Text) (t : Options) → OptionsFit o → with_value o name word ≡ Some t → OptionsFit t
-value_fits o option_names.Uid word t fits e = once_fits o.uid _ _ t e (λ n is. record { inline = fits.inline; jobs = fits.jobs; clients = fits.clients; calls = fits.calls })
-value_fits o option_names.Gid word t fits e = once_fits o.gid _ _ t e (λ n is. record { inline = fits.inline; jobs = fits.jobs; clients = fits.clients; calls = fits.calls })
-value_fits o option_names.Inline word t fits e = once_fits o.inline _ _ t e (λ n is. record { inline = subst (InRange units_max) is (numeral_fits units_max word); jobs = fits.jobs; clients = fits.clients; calls = fits.calls })
+value_fits o option_names.Uid word t fits e = once_fits o.uid _ _ t e (λ n is. record { inline = fits.inline; number = fits.number; tries = fits.tries; jobs = fits.jobs; clients = fits.clients; calls = fits.calls })
+value_fits o option_names.Gid word t fits e = once_fits o.gid _ _ t e (λ n is. record { inline = fits.inline; number = fits.number; tries = fits.tries; jobs = fits.jobs; clients = fits.clients; calls = fits.calls })
+value_fits o option_names.Inline word t fits e = once_fits o.inline _ _ t e (λ n is. record { inline = subst (InRange 1 units_max) is (numeral_fits 1 units_max word); number = fits.number; tries = fits.tries; jobs = fits.jobs; clients = fits.clients; calls = fits.calls })
 value_fits o option_names.Invalidate word t fits e = absurd (none-some _ e)
-value_fits o option_names.Jobs word t fits e = once_fits o.jobs _ _ t e (λ n is. record { inline = fits.inline; jobs = subst (InRange jobs_max) is (numeral_fits jobs_max word); clients = fits.clients; calls = fits.calls })
-value_fits o option_names.Seed word t fits e = once_fits o.seed _ _ t e (λ n is. record { inline = fits.inline; jobs = fits.jobs; clients = fits.clients; calls = fits.calls })
-value_fits o option_names.Clients word t fits e = once_fits o.clients _ _ t e (λ n is. record { inline = fits.inline; jobs = fits.jobs; clients = subst (InRange clients_max) is (numeral_fits clients_max word); calls = fits.calls })
-value_fits o option_names.Calls word t fits e = once_fits o.calls _ _ t e (λ n is. record { inline = fits.inline; jobs = fits.jobs; clients = fits.clients; calls = subst (InRange calls_max) is (numeral_fits calls_max word) })
+value_fits o option_names.Client word t fits e = once_fits o.number _ _ t e (λ n is. record { inline = fits.inline; number = subst (InRange 1 client_number_max) is (numeral_fits 1 client_number_max word); tries = fits.tries; jobs = fits.jobs; clients = fits.clients; calls = fits.calls })
+value_fits o option_names.Tries word t fits e = once_fits o.tries _ _ t e (λ n is. record { inline = fits.inline; number = fits.number; tries = subst (InRange 0 tries_max) is (numeral_fits 0 tries_max word); jobs = fits.jobs; clients = fits.clients; calls = fits.calls })
+value_fits o option_names.Jobs word t fits e = once_fits o.jobs _ _ t e (λ n is. record { inline = fits.inline; number = fits.number; tries = fits.tries; jobs = subst (InRange 1 jobs_max) is (numeral_fits 1 jobs_max word); clients = fits.clients; calls = fits.calls })
+value_fits o option_names.Seed word t fits e = once_fits o.seed _ _ t e (λ n is. record { inline = fits.inline; number = fits.number; tries = fits.tries; jobs = fits.jobs; clients = fits.clients; calls = fits.calls })
+value_fits o option_names.Clients word t fits e = once_fits o.clients _ _ t e (λ n is. record { inline = fits.inline; number = fits.number; tries = fits.tries; jobs = fits.jobs; clients = subst (InRange 1 clients_max) is (numeral_fits 1 clients_max word); calls = fits.calls })
+value_fits o option_names.Calls word t fits e = once_fits o.calls _ _ t e (λ n is. record { inline = fits.inline; number = fits.number; tries = fits.tries; jobs = fits.jobs; clients = fits.clients; calls = subst (InRange 1 calls_max) is (numeral_fits 1 calls_max word) })
 value_fits o option_names.Log word t fits e = absurd (none-some _ e)
 
 invalidate_fits : (o : Options) (t : Options) → OptionsFit o → with_invalidate o ≡ Some t → OptionsFit t
@@ -73,14 +79,14 @@ invalidate_fits o t fits e = by o.invalidates e
   where
     by : (b : Bool) → cond b None (Some (record o { invalidates = true })) ≡ Some t → OptionsFit t
     by true e = absurd (none-some t e)
-    by false e = subst OptionsFit (same_Some _ t e) (record { inline = fits.inline; jobs = fits.jobs; clients = fits.clients; calls = fits.calls })
+    by false e = subst OptionsFit (same_Some _ t e) (record { inline = fits.inline; number = fits.number; tries = fits.tries; jobs = fits.jobs; clients = fits.clients; calls = fits.calls })
 
 log_fits : (o : Options) (t : Options) → OptionsFit o → with_log o ≡ Some t → OptionsFit t
 log_fits o t fits e = by o.log e
   where
     by : (b : Bool) → cond b None (Some (record o { log = true })) ≡ Some t → OptionsFit t
     by true e = absurd (none-some t e)
-    by false e = subst OptionsFit (same_Some _ t e) (record { inline = fits.inline; jobs = fits.jobs; clients = fits.clients; calls = fits.calls })
+    by false e = subst OptionsFit (same_Some _ t e) (record { inline = fits.inline; number = fits.number; tries = fits.tries; jobs = fits.jobs; clients = fits.clients; calls = fits.calls })
 
 -- ---- Positionals
 
@@ -140,6 +146,8 @@ name_fits s option_names.Log t fits e = mapped _ (with_log s.options) t StateFit
 name_fits s option_names.Uid t fits e = waiting_fits s _ t fits e
 name_fits s option_names.Gid t fits e = waiting_fits s _ t fits e
 name_fits s option_names.Inline t fits e = waiting_fits s _ t fits e
+name_fits s option_names.Client t fits e = waiting_fits s _ t fits e
+name_fits s option_names.Tries t fits e = waiting_fits s _ t fits e
 name_fits s option_names.Jobs t fits e = waiting_fits s _ t fits e
 name_fits s option_names.Seed t fits e = waiting_fits s _ t fits e
 name_fits s option_names.Clients t fits e = waiting_fits s _ t fits e
@@ -170,7 +178,7 @@ steps_fit subcommand s (word ∷ words) t fits e =
 
 start_fits : StateFits start
 start_fits = record {
-  options = record { inline = tt; jobs = tt; clients = tt; calls = tt };
+  options = record { inline = tt; number = tt; tries = tt; jobs = tt; clients = tt; calls = tt };
   positionals = record {
     first = λ lt. absurd (omega (arith, lt));
     second = λ lt. absurd (omega (arith, lt));
@@ -181,7 +189,7 @@ start_fits = record {
 
 -- ---- The command
 
-drill_possible : (seed clients calls : Option ℕ) (log : Bool) (c : Command Text) → InRange clients_max clients → InRange calls_max calls → drill_of seed clients calls log ≡ Some c → is_command c ≡ true
+drill_possible : (seed clients calls : Option ℕ) (log : Bool) (c : Command Text) → InRange 1 clients_max clients → InRange 1 calls_max calls → drill_of seed clients calls log ≡ Some c → is_command c ≡ true
 drill_possible None None None log c a b e = subst (λ (x : Command Text). is_command x ≡ true) (same_Some _ c e) refl
 drill_possible (Some seed) (Some n) (Some m) log c a b e =
     subst (λ (x : Command Text). is_command x ≡ true) (same_Some _ c e) (grind (arith, nat_tests, a.0, a.1, b.0, b.1))
@@ -190,18 +198,34 @@ drill_possible None (Some n) calls log c a b e = absurd (none-some c e)
 drill_possible (Some seed) None calls log c a b e = absurd (none-some c e)
 drill_possible (Some seed) (Some n) None log c a b e = absurd (none-some c e)
 
-units_possible : (inline : Option ℕ) → InRange units_max inline → are_units (unwrap_or inline default_units) ≡ true
+units_possible : (inline : Option ℕ) → InRange 1 units_max inline → are_units (unwrap_or inline default_units) ≡ true
 units_possible None h = refl
 units_possible (Some n) h = grind (arith, nat_tests, h.0, h.1)
+
+number_possible : (number : ℕ) → (1 ≤ number) × (number ≤ client_number_max) → is_number number ≡ true
+number_possible number h = grind (arith, nat_tests, h.0, h.1)
+
+tries_possible : (tries : ℕ) → (0 ≤ tries) × (tries ≤ tries_max) → are_tries tries ≡ true
+tries_possible tries h = grind (arith, nat_tests, h.1)
+
+numbered_possible : (number tries : Option ℕ) (client : Client Text) (c : Command Text) → InRange 1 client_number_max number → InRange 0 tries_max tries → is_client client ≡ true
+    → with_number number tries client ≡ Some c → is_command c ≡ true
+numbered_possible None None client c a b good e = subst (λ (x : Command Text). is_command x ≡ true) (same_Some _ c e) good
+numbered_possible (Some number) (Some tries) client c a b good e =
+    let has_number = number_possible number a in
+    let has_tries = tries_possible tries b in
+    subst (λ (x : Command Text). is_command x ≡ true) (same_Some _ c e) (rw (good, has_number, has_tries) refl)
+numbered_possible None (Some tries) client c a b good e = absurd (none-some c e)
+numbered_possible (Some number) None client c a b good e = absurd (none-some c e)
 
 client_possible : (o : Options) (p : Positionals Text) (action : Action Text) (c : Command Text) → OptionsFit o → PositionalsFit p → 2 ≤ p.count → is_action action ≡ true → client o p action ≡ Some c → is_command c ≡ true
 client_possible o p action c opt fits two good e =
     let one = fits.first (omega (arith, two)) in
     let other = fits.second (omega (arith, two)) in
     let units = units_possible o.inline opt.inline in
-    subst (λ (x : Command Text). is_command x ≡ true) (same_Some _ c e) (rw (one, other, units, good) refl)
+    numbered_possible o.number o.tries (client_of o p action) c opt.number opt.tries (rw (one, other, units, good) refl) e
 
-jobs_fit : (jobs : Option ℕ) → InRange jobs_max jobs → (1 ≤ unwrap_or jobs default_jobs) × (unwrap_or jobs default_jobs ≤ jobs_max)
+jobs_fit : (jobs : Option ℕ) → InRange 1 jobs_max jobs → (1 ≤ unwrap_or jobs default_jobs) × (unwrap_or jobs default_jobs ≤ jobs_max)
 jobs_fit None h = (omega arith, omega arith)
 jobs_fit (Some n) h = h
 
@@ -210,13 +234,18 @@ past_one zero h e = absurd (omega (arith, h))
 past_one (suc zero) h e = absurd (false≢true (sym e))
 past_one (suc (suc n)) h e = omega arith
 
+jobs_possible : (number tries : Option ℕ) (get : GetByJobs Text) (c : Command Text) → is_command (commands.GetByJobs get) ≡ true → without_number number tries get ≡ Some c → is_command c ≡ true
+jobs_possible None None get c good e = subst (λ (x : Command Text). is_command x ≡ true) (same_Some _ c e) good
+jobs_possible (Some number) tries get c good e = absurd (none-some c e)
+jobs_possible None (Some tries) get c good e = absurd (none-some c e)
+
 get_possible : (o : Options) (p : Positionals Text) (jobs : ℕ) (c : Command Text) → OptionsFit o → PositionalsFit p → p.count ≡ 3 → (1 ≤ jobs) × (jobs ≤ jobs_max) → get_of o p jobs ≡ Some c → is_command c ≡ true
 get_possible o p jobs c opt fits n within e = by (eqb jobs 1) refl e
   where
     several : eqb jobs 1 ≡ false → are_jobs jobs ≡ true
     several not_one = grind (arith, nat_tests, past_one jobs within.0 not_one, within.1)
 
-    by : (b : Bool) → eqb jobs 1 ≡ b → cond b (client o p (actions.Get p.third)) (Some (commands.GetByJobs (by_jobs o p jobs))) ≡ Some c → is_command c ≡ true
+    by : (b : Bool) → eqb jobs 1 ≡ b → cond b (client o p (actions.Get p.third)) (without_number o.number o.tries (by_jobs o p jobs)) ≡ Some c → is_command c ≡ true
     by true is e = client_possible o p _ c opt fits (omega (arith, n)) (fits.third (omega (arith, n))) e
     by false is e =
         let one = fits.first (omega (arith, n)) in
@@ -224,7 +253,7 @@ get_possible o p jobs c opt fits n within e = by (eqb jobs 1) refl e
         let path = fits.third (omega (arith, n)) in
         let units = units_possible o.inline opt.inline in
         let jobs_are = several is in
-        subst (λ (x : Command Text). is_command x ≡ true) (same_Some _ c e) (rw (one, other, path, units, jobs_are) refl)
+        jobs_possible o.number o.tries (by_jobs o p jobs) c (rw (one, other, path, units, jobs_are) refl) e
 
 complete_possible : (subcommand : Subcommand) (o : Options) (p : Positionals Text) (c : Command Text) → OptionsFit o → PositionalsFit p → p.count ≡ arity subcommand → complete subcommand o p ≡ Some c → is_command c ≡ true
 complete_possible subcommands.Serve o p c opt fits n e = subst (λ (x : Command Text). is_command x ≡ true) (same_Some _ c e) (fits.first (omega (arith, n)))

@@ -15,6 +15,13 @@ clients_max = 16
 abbrev pub calls_max : ℕ
 calls_max = 1000000
 
+-- the maximum number of a client, and how often the link of such a client is dialled again at most
+abbrev pub client_number_max : ℕ
+client_number_max = 18446744073709551615
+
+abbrev pub tries_max : ℕ
+tries_max = 16
+
 -- the maximum number of jobs of a `get`, and how many it has if nothing is said
 abbrev pub jobs_max : ℕ
 jobs_max = 16

@@ -2,12 +2,13 @@
 use Rattle.std.specs.Prelude.{ℕ, ◌==◌, Bool, true, false, not, if◌then◌else◌, List, [], ◌∷◌, codes, Option, Some, None, is_some, option_map, option_and_then, unwrap_or}
 use Rattle.std.specs.Borrow.{Bor}
 use Rattle.std.specs.Str.{bytes_eq}
-use Rattle.nr_words.specs.Limits.{calls_max, clients_max, default_jobs, default_units, id_max, jobs_max, seed_max, units_max}
+use Rattle.nr_words.specs.Limits.{calls_max, client_number_max, clients_max, default_jobs, default_units, id_max, jobs_max, seed_max, tries_max, units_max}
 use Rattle.nr_words.specs.Numbers.{numeral_within}
 use Rattle.nr_words.specs.declared.commands.Command.{Command}
 use Rattle.nr_words.specs.declared.commands.Command.TheVariants as commands
 use Rattle.nr_words.specs.declared.commands.Client.{Client}
 use Rattle.nr_words.specs.declared.commands.GetByJobs.{GetByJobs}
+use Rattle.nr_words.specs.declared.commands.NumberedClient.{NumberedClient}
 use Rattle.nr_words.specs.declared.commands.Action.{Action}
 use Rattle.nr_words.specs.declared.commands.Action.TheVariants as actions
 use Rattle.nr_words.specs.declared.lines.Subcommand.{Subcommand}
@@ -44,6 +45,8 @@ option_named word =
     else if bytes_eq word (codes "--gid") then Some option_names.Gid
     else if bytes_eq word (codes "--inline") then Some option_names.Inline
     else if bytes_eq word (codes "--invalidate") then Some option_names.Invalidate
+    else if bytes_eq word (codes "--client") then Some option_names.Client
+    else if bytes_eq word (codes "--tries") then Some option_names.Tries
     else if bytes_eq word (codes "--jobs") then Some option_names.Jobs
     else if bytes_eq word (codes "--seed") then Some option_names.Seed
     else if bytes_eq word (codes "--clients") then Some option_names.Clients
@@ -57,6 +60,8 @@ is_of_client option_names.Uid = true
 is_of_client option_names.Gid = true
 is_of_client option_names.Inline = true
 is_of_client option_names.Invalidate = true
+is_of_client option_names.Client = true
+is_of_client option_names.Tries = true
 is_of_client _ = false
 
 abbrev pub is_of_get : OptionName → Bool
@@ -96,6 +101,8 @@ with_value o option_names.Uid word = once o.uid (numeral_within 0 id_max word) (
 with_value o option_names.Gid word = once o.gid (numeral_within 0 id_max word) (λ n. record o { gid = Some n })
 with_value o option_names.Inline word = once o.inline (numeral_within 1 units_max word) (λ n. record o { inline = Some n })
 with_value o option_names.Invalidate word = None
+with_value o option_names.Client word = once o.number (numeral_within 1 client_number_max word) (λ n. record o { number = Some n })
+with_value o option_names.Tries word = once o.tries (numeral_within 0 tries_max word) (λ n. record o { tries = Some n })
 with_value o option_names.Jobs word = once o.jobs (numeral_within 1 jobs_max word) (λ n. record o { jobs = Some n })
 with_value o option_names.Seed word = once o.seed (numeral_within 0 seed_max word) (λ n. record o { seed = Some n })
 with_value o option_names.Clients word = once o.clients (numeral_within 1 clients_max word) (λ n. record o { clients = Some n })
@@ -154,17 +161,30 @@ drill_of None None None log = Some (commands.Drill log)
 drill_of (Some seed) (Some clients) (Some calls) log = Some (commands.GeneratedDrill seed clients calls log)
 drill_of _ _ _ log = None
 
-abbrev pub client : Options → Positionals Text → Action Text → Option (Command Text)
-client o p action =
-    Some (commands.Client (record { addr = p.first; export = p.second; uid = unwrap_or o.uid 0; gid = unwrap_or o.gid 0; units = unwrap_or o.inline default_units; invalidates = o.invalidates; action = action }))
+abbrev pub client_of : Options → Positionals Text → Action Text → Client Text
+client_of o p action =
+    record { addr = p.first; export = p.second; uid = unwrap_or o.uid 0; gid = unwrap_or o.gid 0; units = unwrap_or o.inline default_units; invalidates = o.invalidates; action = action }
 
--- `get` by this many jobs: by one it is a command as the others are
+-- with a number and its tries, or without both
+abbrev pub with_number : (number tries : Option ℕ) → Client Text → Option (Command Text)
+with_number None None c = Some (commands.Client c)
+with_number (Some number) (Some tries) c = Some (commands.NumberedClient (record { client = c; number = number; tries = tries }))
+with_number _ _ c = None
+
+abbrev pub client : Options → Positionals Text → Action Text → Option (Command Text)
+client o p action = with_number o.number o.tries (client_of o p action)
+
+-- `get` by this many jobs: by one it is a command as the others are, by several it has no number
 abbrev pub by_jobs : Options → Positionals Text → (jobs : ℕ) → GetByJobs Text
 by_jobs o p jobs =
     record { addr = p.first; export = p.second; path = p.third; uid = unwrap_or o.uid 0; gid = unwrap_or o.gid 0; units = unwrap_or o.inline default_units; invalidates = o.invalidates; jobs = jobs }
 
+abbrev pub without_number : (number tries : Option ℕ) → GetByJobs Text → Option (Command Text)
+without_number None None get = Some (commands.GetByJobs get)
+without_number _ _ get = None
+
 abbrev pub get_of : Options → Positionals Text → (jobs : ℕ) → Option (Command Text)
-get_of o p jobs = if jobs == 1 then client o p (actions.Get p.third) else Some (commands.GetByJobs (by_jobs o p jobs))
+get_of o p jobs = if jobs == 1 then client o p (actions.Get p.third) else without_number o.number o.tries (by_jobs o p jobs)
 
 abbrev pub complete : Subcommand → Options → Positionals Text → Option (Command Text)
 complete subcommands.Serve o p = Some (commands.Serve p.first)
@@ -187,7 +207,7 @@ abbrev pub finished : Subcommand → State Text → Option (Command Text)
 finished subcommand s = if is_some s.waiting then None else command_of subcommand s.options s.positionals
 
 abbrev pub no_options : Options
-no_options = record { uid = None; gid = None; inline = None; invalidates = false; jobs = None; seed = None; clients = None; calls = None; log = false }
+no_options = record { uid = None; gid = None; inline = None; invalidates = false; number = None; tries = None; jobs = None; seed = None; clients = None; calls = None; log = false }
 
 abbrev pub start : State Text
 start = record { waiting = None; options = no_options; positionals = record { count = 0; first = []; second = []; third = []; fourth = [] } }
@@ -220,6 +240,9 @@ plain_action (actions.Link path target) = actions.Link path.now target.now
 abbrev pub plain_client : Client (Bor Text) → Client Text
 plain_client c = record { addr = c.addr.now; export = c.export.now; uid = c.uid; gid = c.gid; units = c.units; invalidates = c.invalidates; action = plain_action c.action }
 
+abbrev pub plain_numbered : NumberedClient (Bor Text) → NumberedClient Text
+plain_numbered c = record { client = plain_client c.client; number = c.number; tries = c.tries }
+
 abbrev pub plain_get : GetByJobs (Bor Text) → GetByJobs Text
 plain_get g = record { addr = g.addr.now; export = g.export.now; path = g.path.now; uid = g.uid; gid = g.gid; units = g.units; invalidates = g.invalidates; jobs = g.jobs }
 
@@ -227,6 +250,7 @@ abbrev pub plain_command : Command (Bor Text) → Command Text
 plain_command (commands.Serve config) = commands.Serve config.now
 plain_command (commands.Gate config) = commands.Gate config.now
 plain_command (commands.Client client) = commands.Client (plain_client client)
+plain_command (commands.NumberedClient client) = commands.NumberedClient (plain_numbered client)
 plain_command (commands.GetByJobs get) = commands.GetByJobs (plain_get get)
 plain_command (commands.Drill log) = commands.Drill log
 plain_command (commands.GeneratedDrill seed clients calls log) = commands.GeneratedDrill seed clients calls log

@@ -7,7 +7,7 @@ use Rattle.clap.specs.declared.builder.command.Command.{Command}
 use Rattle.clap.specs.declared.builder.action.ArgAction.TheVariants.{SetTrue}
 use Rattle.clap.specs.declared.builder.value_parser.ValueParser.{ValueParser}
 use Rattle.clap.specs.declared.builder.value_parser.ValueParser.TheVariants as parsers
-use Rattle.nr_words.specs.Limits.{calls_max, clients_max, id_max, jobs_max, seed_max, units_max}
+use Rattle.nr_words.specs.Limits.{calls_max, client_number_max, clients_max, id_max, jobs_max, seed_max, tries_max, units_max}
 
 abbrev pub positional_rule : Text → Rule
 positional_rule name = record (new_rule name) { required = true }
@@ -21,11 +21,13 @@ flag_rule name = record (new_rule name) { long = Some name; action = Some SetTru
 -- with the options of each command of a client
 abbrev pub with_client_options : App → App
 with_client_options app =
-    with_rule (with_rule (with_rule (with_rule app
+    with_rule (with_rule (with_rule (with_rule (with_rule (with_rule app
     (number_rule (codes "uid") (parsers.Signed (pos 0) (pos id_max))))
     (number_rule (codes "gid") (parsers.Signed (pos 0) (pos id_max))))
     (number_rule (codes "inline") (parsers.Signed (pos 1) (pos units_max))))
-    (flag_rule (codes "invalidate"))
+    (flag_rule (codes "invalidate")))
+    (number_rule (codes "client") (parsers.Unsigned 1 client_number_max)))
+    (number_rule (codes "tries") (parsers.Signed (pos 0) (pos tries_max)))
 
 abbrev pub client_app : Text → App
 client_app name = with_client_options (with_rule (with_rule (new_app name) (positional_rule (codes "ADDR"))) (positional_rule (codes "EXPORT")))

@@ -7,11 +7,12 @@ use Rattle.clap.specs.declared.error.kind.ErrorKind.{ErrorKind}
 use Rattle.clap.specs.declared.error.kind.ErrorKind.TheVariants as kinds
 use Rattle.nr_words.specs.declared.commands.Command.{Command}
 use Rattle.nr_words.specs.declared.commands.Command.TheVariants as commands
+use Rattle.nr_words.specs.declared.commands.Client.{Client}
 use Rattle.nr_words.specs.declared.commands.Action.{Action}
 use Rattle.nr_words.specs.declared.commands.Action.TheVariants as actions
 use Rattle.nr_words.specs.declared.words.WordsFault.{WordsFault}
 use Rattle.nr_words.specs.declared.words.WordsFault.TheVariants as faults
-use Rattle.nr_words.specs.Limits.{calls_max, clients_max, jobs_max, units_max}
+use Rattle.nr_words.specs.Limits.{calls_max, client_number_max, clients_max, jobs_max, tries_max, units_max}
 use Rattle.nr_words.specs.Lines.{Text, is_positional, line_of, plain_command}
 use Rattle.nr_words.specs.Spelled.{spelled}
 use Rattle.nr_words.specs.Program.{program_app}
@@ -35,10 +36,21 @@ are_units units = nat_le 1 units && nat_le units units_max
 abbrev pub are_jobs : ℕ → Bool
 are_jobs jobs = nat_le 2 jobs && nat_le jobs jobs_max
 
+abbrev pub is_client : Client Text → Bool
+is_client c = is_positional c.addr && is_positional c.export && are_units c.units && is_action c.action
+
+-- the number of a client, and how often its link is dialled again
+abbrev pub is_number : ℕ → Bool
+is_number number = nat_le 1 number && nat_le number client_number_max
+
+abbrev pub are_tries : ℕ → Bool
+are_tries tries = nat_le tries tries_max
+
 abbrev pub is_command : Command Text → Bool
 is_command (commands.Serve config) = is_positional config
 is_command (commands.Gate config) = is_positional config
-is_command (commands.Client c) = is_positional c.addr && is_positional c.export && are_units c.units && is_action c.action
+is_command (commands.Client c) = is_client c
+is_command (commands.NumberedClient c) = is_client c.client && is_number c.number && are_tries c.tries
 is_command (commands.GetByJobs g) = is_positional g.addr && is_positional g.export && is_positional g.path && are_units g.units && are_jobs g.jobs
 is_command (commands.Drill log) = true
 is_command (commands.GeneratedDrill seed clients calls log) = nat_le 1 clients && nat_le clients clients_max && nat_le 1 calls && nat_le calls calls_max

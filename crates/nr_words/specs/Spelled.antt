@@ -7,7 +7,7 @@ use Rattle.nr_words.specs.declared.lines.Subcommand.{Subcommand}
 use Rattle.nr_words.specs.declared.lines.Subcommand.TheVariants as subcommands
 use Rattle.nr_words.specs.declared.options.Options.{Options}
 use Rattle.nr_words.specs.declared.lines.Positionals.{Positionals}
-use Rattle.nr_words.specs.Limits.{calls_max, clients_max, id_max, jobs_max, seed_max, units_max}
+use Rattle.nr_words.specs.Limits.{calls_max, client_number_max, clients_max, id_max, jobs_max, seed_max, tries_max, units_max}
 use Rattle.nr_words.specs.Numbers.{number_within}
 use Rattle.nr_words.specs.Lines.{Text, command_of, subcommand_named, arity}
 
@@ -42,6 +42,8 @@ options_of rows = record {
   gid = narrow (number_of 0 id_max (codes "gid") rows);
   inline = narrow_to_byte (number_of 1 units_max (codes "inline") rows);
   invalidates = flag_of (codes "invalidate") rows;
+  number = number_of 1 client_number_max (codes "client") rows;
+  tries = narrow_to_byte (number_of 0 tries_max (codes "tries") rows);
   jobs = narrow_to_byte (number_of 1 jobs_max (codes "jobs") rows);
   seed = number_of 0 seed_max (codes "seed") rows;
   clients = narrow (number_of 1 clients_max (codes "clients") rows);

@@ -69,6 +69,29 @@ impl<T: Copy> Clone for Client<T> {
 
 impl<T: Copy> Copy for Client<T> {}
 
+/// A client with a number. If its link is lost it dials again and sends the calls that weren't answered again, under the same xids: a
+/// server that keeps replies by number and xid executes each of them at most once.
+pub struct NumberedClient<T> {
+    /// The client.
+    pub client: Client<T>,
+    /// Its number, which each hello of its links carries: 1 to [`CLIENT_NUMBER_MAX`](crate::CLIENT_NUMBER_MAX).
+    pub number: u64,
+    /// How often a lost link is dialled again, in all: 0 to [`TRIES_MAX`](crate::TRIES_MAX).
+    pub tries: u8,
+}
+
+impl<T: Copy> Clone for NumberedClient<T> {
+    ghost is_clone = { λ x y. y ≡ x };
+
+    ghost is_infallible = { λ _. ⊤ };
+
+    fn clone(&self) -> Result<NumberedClient<T>, AllocError> {
+        Ok(*self)
+    }
+}
+
+impl<T: Copy> Copy for NumberedClient<T> {}
+
 /// A file that several jobs read, which is written to standard output.
 pub struct GetByJobs<T> {
     /// The address of the server.
@@ -114,6 +137,10 @@ pub enum Command<T> {
     /// Run a client.
     Client {
         client: Client<T>,
+    },
+    /// Run a client that has a number.
+    NumberedClient {
+        client: NumberedClient<T>,
     },
     /// Run a client that writes a file to standard output, which several jobs read.
     GetByJobs {

@@ -20,12 +20,12 @@ mod program;
 mod settings;
 mod words;
 
-pub use commands::{Action, Client, Command, GetByJobs};
+pub use commands::{Action, Client, Command, GetByJobs, NumberedClient};
 pub use gate_settings::{GateConfig, GateSettings, read_gate_config};
 pub use laws::{lines_are_possible, options_that_ask};
 pub use limits::{
-    CALLS_MAX, CAPACITY_MAX, CLIENTS_MAX, CONNECTIONS_MAX, CREDITS_MAX, DEFAULT_JOBS,
-    DEFAULT_UNITS, ID_MAX, JOBS_MAX, MOUNT_PATH_MAX, SEED_MAX, UNITS_MAX,
+    CALLS_MAX, CAPACITY_MAX, CLIENT_NUMBER_MAX, CLIENTS_MAX, CONNECTIONS_MAX, CREDITS_MAX,
+    DEFAULT_JOBS, DEFAULT_UNITS, ID_MAX, JOBS_MAX, MOUNT_PATH_MAX, SEED_MAX, TRIES_MAX, UNITS_MAX,
 };
 pub use lines::read_line;
 pub use settings::{Config, ConfigFault, Settings, read_config};

@@ -12,6 +12,12 @@ pub const CLIENTS_MAX: u64 = 16;
 /// The maximum number of calls of a script that is generated.
 pub const CALLS_MAX: u64 = 1_000_000;
 
+/// The maximum number of a client.
+pub const CLIENT_NUMBER_MAX: u64 = 18_446_744_073_709_551_615;
+
+/// How often the link of a client with a number is dialled again at most.
+pub const TRIES_MAX: u64 = 16;
+
 /// The maximum number of jobs of a `get`.
 pub const JOBS_MAX: u64 = 16;
 

@@ -1,9 +1,9 @@
 //! The lines of the program: words in the one spelling that is never refused.
 
 ghost use Rattle.std.specs.Prelude.{◌≡◌, ⊤, map, option_map, string_bytes};
-ghost use Rattle.nr_words.specs.Lines.{takes, with_options, after_name, with_positional, is_positional, step, steps, start, arity, by_jobs, drill_of, subcommand_named, command_of, finished, line_of, plain_state, plain_positionals, plain_command, plain_get};
+ghost use Rattle.nr_words.specs.Lines.{takes, with_options, after_name, with_positional, is_positional, step, steps, start, arity, by_jobs, client, drill_of, get_of, subcommand_named, command_of, finished, line_of, plain_action, plain_state, plain_positionals, plain_command, plain_get};
 
-use crate::commands::{Action, Client, Command, GetByJobs};
+use crate::commands::{Action, Client, Command, GetByJobs, NumberedClient};
 use crate::limits::{DEFAULT_JOBS, DEFAULT_UNITS};
 use crate::options::{OptionName, Options, option_named, with_invalidate, with_log, with_value};
 use std::alloc::AllocError;
@@ -102,11 +102,18 @@ fn takes(subcommand: Subcommand, name: OptionName) -> bool
                 | OptionName::Gid
                 | OptionName::Inline
                 | OptionName::Invalidate
+                | OptionName::Client
+                | OptionName::Tries
                 | OptionName::Jobs
         ),
         _ => matches!(
             name,
-            OptionName::Uid | OptionName::Gid | OptionName::Inline | OptionName::Invalidate
+            OptionName::Uid
+                | OptionName::Gid
+                | OptionName::Inline
+                | OptionName::Invalidate
+                | OptionName::Client
+                | OptionName::Tries
         ),
     }
 }
@@ -242,6 +249,36 @@ fn drill_of<'a>(
     }
 }
 
+/// The command of a client that does this, if both a number and tries are given, or neither.
+fn client<'a>(
+    options: Options,
+    positionals: Positionals<&'a str>,
+    action: Action<&'a str>,
+) -> Option<Command<&'a str>>
+    ensures { option_map plain_command result ≡ client options (plain_positionals positionals.entry) (plain_action action.entry) }
+{
+    let client = Client {
+        addr: positionals.first,
+        export: positionals.second,
+        uid: options.uid.unwrap_or(0),
+        gid: options.gid.unwrap_or(0),
+        units: options.inline.unwrap_or(DEFAULT_UNITS),
+        invalidates: options.invalidates,
+        action,
+    };
+    match (options.number, options.tries) {
+        (None, None) => Some(Command::Client { client }),
+        (Some(number), Some(tries)) => Some(Command::NumberedClient {
+            client: NumberedClient {
+                client,
+                number,
+                tries,
+            },
+        }),
+        _ => None,
+    }
+}
+
 /// The `get` of these options and positionals, by this many jobs.
 fn by_jobs<'a>(options: Options, positionals: Positionals<&'a str>, jobs: u8) -> GetByJobs<&'a str>
     ensures { plain_get result ≡ by_jobs options (plain_positionals positionals.entry) jobs }
@@ -256,6 +293,26 @@ fn by_jobs<'a>(options: Options, positionals: Positionals<&'a str>, jobs: u8) ->
         units,
         invalidates: options.invalidates,
         jobs,
+    }
+}
+
+/// The command of a `get` by this many jobs. By one it is a command as the others are; by several it has no number.
+fn get_of<'a>(
+    options: Options,
+    positionals: Positionals<&'a str>,
+    jobs: u8,
+) -> Option<Command<&'a str>>
+    ensures { option_map plain_command result ≡ get_of options (plain_positionals positionals.entry) jobs }
+{
+    if jobs == 1 {
+        let path = positionals.third;
+        return client(options, positionals, Action::Get { path });
+    }
+    match (options.number, options.tries) {
+        (None, None) => Some(Command::GetByJobs {
+            get: by_jobs(options, positionals, jobs),
+        }),
+        _ => None,
     }
 }
 
@@ -293,29 +350,14 @@ pub(crate) fn command_of<'a>(
         Subcommand::Remove => Action::Remove { path },
         Subcommand::Put => Action::Put { path },
         Subcommand::Get => {
-            let jobs = options.jobs.unwrap_or(DEFAULT_JOBS);
-            if jobs != 1 {
-                let get = by_jobs(options, positionals, jobs);
-                return Some(Command::GetByJobs { get });
-            }
-            Action::Get { path }
+            return get_of(options, positionals, options.jobs.unwrap_or(DEFAULT_JOBS));
         }
         Subcommand::Link => Action::Link {
             path,
             target: positionals.fourth,
         },
     };
-    Some(Command::Client {
-        client: Client {
-            addr: positionals.first,
-            export: positionals.second,
-            uid: options.uid.unwrap_or(0),
-            gid: options.gid.unwrap_or(0),
-            units: options.inline.unwrap_or(DEFAULT_UNITS),
-            invalidates: options.invalidates,
-            action,
-        },
-    })
+    client(options, positionals, action)
 }
 
 /// The command, if no value is waited for.
@@ -339,6 +381,8 @@ fn steps<'a>(subcommand: Subcommand, words: &'a [String]) -> Option<State<&'a st
             gid: None,
             inline: None,
             invalidates: false,
+            number: None,
+            tries: None,
             jobs: None,
             seed: None,
             clients: None,

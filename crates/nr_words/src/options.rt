@@ -3,7 +3,9 @@
 ghost use Rattle.std.specs.Prelude.{◌≡◌};
 ghost use Rattle.nr_words.specs.Lines.{option_named, with_invalidate, with_log, with_value};
 
-use crate::limits::{CALLS_MAX, CLIENTS_MAX, ID_MAX, JOBS_MAX, SEED_MAX, UNITS_MAX};
+use crate::limits::{
+    CALLS_MAX, CLIENT_NUMBER_MAX, CLIENTS_MAX, ID_MAX, JOBS_MAX, SEED_MAX, TRIES_MAX, UNITS_MAX,
+};
 use crate::numbers::numeral_within;
 
 /// An option.
@@ -13,6 +15,8 @@ pub(crate) enum OptionName {
     Gid,
     Inline,
     Invalidate,
+    Client,
+    Tries,
     Jobs,
     Seed,
     Clients,
@@ -27,6 +31,8 @@ pub(crate) struct Options {
     pub(crate) gid: Option<u32>,
     pub(crate) inline: Option<u8>,
     pub(crate) invalidates: bool,
+    pub(crate) number: Option<u64>,
+    pub(crate) tries: Option<u8>,
     pub(crate) jobs: Option<u8>,
     pub(crate) seed: Option<u64>,
     pub(crate) clients: Option<u32>,
@@ -43,6 +49,8 @@ pub(crate) fn option_named(word: &str) -> Option<OptionName>
         "--gid" => Some(OptionName::Gid),
         "--inline" => Some(OptionName::Inline),
         "--invalidate" => Some(OptionName::Invalidate),
+        "--client" => Some(OptionName::Client),
+        "--tries" => Some(OptionName::Tries),
         "--jobs" => Some(OptionName::Jobs),
         "--seed" => Some(OptionName::Seed),
         "--clients" => Some(OptionName::Clients),
@@ -82,6 +90,23 @@ pub(crate) fn with_value(options: Options, name: OptionName, word: &str) -> Opti
             _ => None,
         },
         OptionName::Invalidate | OptionName::Log => None,
+        OptionName::Client => match (
+            options.number,
+            numeral_within(1, CLIENT_NUMBER_MAX, word.as_bytes()),
+        ) {
+            (None, Some(value)) => Some(Options {
+                number: Some(value),
+                ..options
+            }),
+            _ => None,
+        },
+        OptionName::Tries => match (options.tries, numeral_within(0, TRIES_MAX, word.as_bytes())) {
+            (None, Some(value)) => Some(Options {
+                tries: Some(value as u8),
+                ..options
+            }),
+            _ => None,
+        },
         OptionName::Jobs => match (options.jobs, numeral_within(1, JOBS_MAX, word.as_bytes())) {
             (None, Some(value)) => Some(Options {
                 jobs: Some(value as u8),

@@ -4,7 +4,9 @@ ghost use Rattle.std.specs.Prelude.{◌≡◌, IfOk, false};
 ghost use Rattle.clap.specs.Words.{new_app, rule_of};
 ghost use Rattle.nr_words.specs.Program.{Adds, AddsClientOptions, AddsPaths, AddsRule, AddsTo, Builds, client_app, flag_rule, number_rule, path_app, positional_rule, plain_app, program_app, drill_app, gate_app, get_app, link_app, serve_app};
 
-use crate::limits::{CALLS_MAX, CLIENTS_MAX, ID_MAX, JOBS_MAX, SEED_MAX, UNITS_MAX};
+use crate::limits::{
+    CALLS_MAX, CLIENT_NUMBER_MAX, CLIENTS_MAX, ID_MAX, JOBS_MAX, SEED_MAX, TRIES_MAX, UNITS_MAX,
+};
 use clap::builder::ValueParser;
 use clap::{Arg, ArgAction, Command};
 use std::alloc::{AllocError, Global};
@@ -31,6 +33,11 @@ const INLINE_HELP: &str =
 
 const INVALIDATE_HELP: &str =
     "Let the server's replies invalidate memory that was offered, if it agrees to it";
+
+const CLIENT_HELP: &str =
+    "A number, 1 to 18446744073709551615, for this run alone, with --tries: a lost link is dialled again, and no change is made twice. Used again, it gets the first run's replies and changes nothing";
+
+const TRIES_HELP: &str = "How often a lost link is dialled again in all, 0 to 16, with --client";
 
 const JOBS_HELP: &str = "The number of jobs that read the file, 1 to 16; 1 if it is left out";
 
@@ -116,7 +123,7 @@ fn add_flag<'a>(
     command.arg(flag(alloc, name, help))
 }
 
-/// A command with the options of a client: `--uid`, `--gid`, `--inline`, `--invalidate`.
+/// A command with the options of a client: `--uid`, `--gid`, `--inline`, `--invalidate`, `--client`, `--tries`.
 fn add_client_options<'a>(alloc: Global, command: Command<'a>) -> Result<Command<'a>, AllocError>
     ensures { IfOk result (AddsClientOptions command.entry) }
 {
@@ -126,7 +133,11 @@ fn add_client_options<'a>(alloc: Global, command: Command<'a>) -> Result<Command
     let command = add_number(alloc, command, "gid", GID_HELP, ids)?;
     let units = ValueParser::Signed(1, UNITS_MAX as i64);
     let command = add_number(alloc, command, "inline", INLINE_HELP, units)?;
-    add_flag(alloc, command, "invalidate", INVALIDATE_HELP)
+    let command = add_flag(alloc, command, "invalidate", INVALIDATE_HELP)?;
+    let numbers = ValueParser::Unsigned(1, CLIENT_NUMBER_MAX);
+    let command = add_number(alloc, command, "client", CLIENT_HELP, numbers)?;
+    let tries = ValueParser::Signed(0, TRIES_MAX as i64);
+    add_number(alloc, command, "tries", TRIES_HELP, tries)
 }
 
 /// A command of a client: ADDR EXPORT, and the options.

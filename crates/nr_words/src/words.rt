@@ -3,12 +3,14 @@
 ghost use Rattle.std.specs.Prelude.{◌≡◌, IfOk, None, Some, map, true, option_map, string_bytes};
 ghost use Rattle.clap.specs.Words.{found_of, kind_of, rows_of, subcommand_rows_of};
 ghost use Rattle.nr_words.specs.Spelled.{flag_of, narrow, narrow_to_byte, number_of, options_of, positionals_of, spelled, text_of, without_sign};
-ghost use Rattle.nr_words.specs.Reads.{Reads, ReadsOther, IsFaultOf, are_jobs, are_units, is_command, is_action};
+ghost use Rattle.nr_words.specs.Reads.{Reads, ReadsOther, IsFaultOf, are_jobs, are_tries, are_units, is_action, is_client, is_command, is_number};
 ghost use Rattle.nr_words.specs.declared.commands.Command.TheVariants as commands;
-ghost use Rattle.nr_words.specs.Lines.{plain_command, plain_action, plain_get, plain_positionals};
+ghost use Rattle.nr_words.specs.Lines.{plain_action, plain_client, plain_command, plain_get, plain_positionals};
 
-use crate::commands::{Action, Command, GetByJobs};
-use crate::limits::{CALLS_MAX, CLIENTS_MAX, ID_MAX, JOBS_MAX, SEED_MAX, UNITS_MAX};
+use crate::commands::{Action, Client, Command, GetByJobs};
+use crate::limits::{
+    CALLS_MAX, CLIENT_NUMBER_MAX, CLIENTS_MAX, ID_MAX, JOBS_MAX, SEED_MAX, TRIES_MAX, UNITS_MAX,
+};
 use crate::lines::{
     Positionals, Subcommand, arity, command_of, is_positional, read_line, subcommand_named,
 };
@@ -101,6 +103,30 @@ fn are_units(units: u8) -> bool
     1 <= units && u64::from(units) <= UNITS_MAX
 }
 
+/// Whether a line can ask for this client.
+fn is_client(client: &Client<&str>) -> bool
+    ensures { result ≡ is_client (plain_client client.now) }
+{
+    is_positional(client.addr)
+        && is_positional(client.export)
+        && are_units(client.units)
+        && is_action(&client.action)
+}
+
+/// Whether a line can give a client this number.
+fn is_number(number: u64) -> bool
+    ensures { result ≡ is_number number }
+{
+    1 <= number
+}
+
+/// Whether a line can ask for this number of tries.
+fn are_tries(tries: u8) -> bool
+    ensures { result ≡ are_tries tries }
+{
+    u64::from(tries) <= TRIES_MAX
+}
+
 /// Whether a line can ask for this number of jobs, more than one.
 fn are_jobs(jobs: u8) -> bool
     ensures { result ≡ are_jobs jobs }
@@ -126,11 +152,9 @@ fn is_command(command: &Command<&str>) -> bool
     match command {
         Command::Serve { config } => is_positional(config),
         Command::Gate { config } => is_positional(config),
-        Command::Client { client } => {
-            is_positional(client.addr)
-                && is_positional(client.export)
-                && are_units(client.units)
-                && is_action(&client.action)
+        Command::Client { client } => is_client(client),
+        Command::NumberedClient { client } => {
+            is_client(&client.client) && is_number(client.number) && are_tries(client.tries)
         }
         Command::GetByJobs { get } => is_get(get),
         Command::Drill { log: _ } => true,
@@ -196,6 +220,8 @@ fn options_of(given: &ArgMatches<'_>) -> Options
         gid: narrow(number_of(given, "gid", 0, ID_MAX)),
         inline: narrow_to_byte(number_of(given, "inline", 1, UNITS_MAX)),
         invalidates: flag_of(given, "invalidate"),
+        number: number_of(given, "client", 1, CLIENT_NUMBER_MAX),
+        tries: narrow_to_byte(number_of(given, "tries", 0, TRIES_MAX)),
         jobs: narrow_to_byte(number_of(given, "jobs", 1, JOBS_MAX)),
         seed: number_of(given, "seed", 0, SEED_MAX),
         clients: narrow(number_of(given, "clients", 1, CLIENTS_MAX)),

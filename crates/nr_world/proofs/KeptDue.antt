@@ -15,12 +15,10 @@ use Rattle.nr_reduce.specs.ClientState.{ClientState, OutstandingCall, WaitingCal
 use Rattle.nr_reduce.specs.History.{AcceptedCall, CompletedCall, accepted_at, accepted_calls, is_abandoned}
 use Rattle.nr_reduce.specs.KeptCalls.{numbered_from}
 use Rattle.nr_reduce.specs.Matched.{IsPrefixOf}
-use Rattle.nr_reduce.specs.Opening.{AreResumed, lengths_before}
 use Rattle.nr_reduce.specs.OutcomesDue.{is_completed}
 use Rattle.nr_reduce.specs.Reopening.{calls_kept, reopened, resumed_again, resumed_as, resumed_of}
 use Rattle.nr_reduce.specs.Run.{client}
 use Rattle.nr_reduce.specs.SubmitAnswer.{first_xid_or, next_sent_xid}
-use Rattle.nr_link.specs.declared.agreement.Agreement.{Agreement}
 use Rattle.nr_reduce.proofs.OutcomesApart.{calls_uncompleted}
 use Rattle.nr_reduce.proofs.Standing.{itself}
 use Rattle.nr_reduce.proofs.Waiting.{accepted_one}
@@ -271,14 +269,20 @@ module _ (o : LinkParameters) (link : ℕ) (run : List Mark) (m : MayLeave o lin
       ∙ ap (filter kept_on) (map-append resumed_call (flat_map (resumed_of accepted) k.outstanding) (map resumed_again k.waiting) ∙ ap (λ (cs : List AcceptedCall). sent_again k.outstanding ++ cs) (waits_again k.waiting))
 
   -- their xids rise
-  resumed_rise : (agreed : Agreement) (first next : ℕ) (rs : List ResumedCall) → AreResumed agreed first rs next → AreRising first (map resumed_call rs) next
-  resumed_rise agreed first next [] h = h
-  resumed_rise agreed first next (r ∷ rs) h = (h.0, resumed_rise agreed (r.xid + 1) next rs h.1.1)
+  one_rises : (first : ℕ) (c : OutstandingCall) (x : Option AcceptedCall) (rest : List AcceptedCall) → first ≤ c.xid → AreRising (c.xid + 1) rest k.next_xid → AreRising first (map resumed_call (resumed_as c x) ++ rest) k.next_xid
+  one_rises first c None rest least h = rising_from (c.xid + 1) first k.next_xid (call_ids rest) (omega (arith, least)) h
+  one_rises first c (Some x) rest least h = (least, h)
 
-  kept_rise : AreRising 1 (filter kept_on (sent_again k.outstanding ++ waits)) (reopened o link run).first_xid
-  kept_rise =
-      let next : LinkParameters = reopened o link run in
-      subst (λ (cs : List AcceptedCall). AreRising 1 cs next.first_xid) kept_are (resumed_rise (lengths_before next.agreed) 1 next.first_xid next.resumed m.opens_next.resumed)
+  sent_rise : (first : ℕ) (os : List OutstandingCall) → IsRising first (xids_out os ++ xids_waiting k.waiting) k.next_xid → AreRising first (sent_again os ++ waits) k.next_xid
+  sent_rise first [] h = waits_from first k.waiting h
+  sent_rise first (c ∷ os) h =
+      let own : List AcceptedCall = map resumed_call (resumed_of accepted c) in
+      let split : sent_again (c ∷ os) ++ waits ≡ own ++ (sent_again os ++ waits) =
+      ap (λ (cs : List AcceptedCall). cs ++ waits) (map-append resumed_call (resumed_of accepted c) (flat_map (resumed_of accepted) os)) ∙ append_assoc own (sent_again os) waits in
+      subst (λ (cs : List AcceptedCall). AreRising first cs k.next_xid) (sym split) (one_rises first c (call_under c.xid accepted) (sent_again os ++ waits) h.0 (sent_rise (c.xid + 1) os h.1))
+
+  kept_rise : AreRising 1 (filter kept_on (sent_again k.outstanding ++ waits)) k.next_xid
+  kept_rise = rising_filter 1 k.next_xid kept_on (sent_again k.outstanding ++ waits) (sent_rise 1 k.outstanding rises.rising)
 
   -- ---- Each is a call of the link that isn't completed
 
@@ -421,7 +425,7 @@ module _ (o : LinkParameters) (link : ℕ) (run : List Mark) (m : MayLeave o lin
   unfolding due_calls
   kept_are_due =
       kept_are
-      ∙ same_lists 1 0 (reopened o link run).first_xid k.next_xid (filter kept_on (sent_again k.outstanding ++ waits)) (filter due (accepted ++ waits)) kept_rise (rising_filter 0 k.next_xid due (accepted ++ waits) link_rises) kept_due due_kept
+      ∙ same_lists 1 0 k.next_xid k.next_xid (filter kept_on (sent_again k.outstanding ++ waits)) (filter due (accepted ++ waits)) kept_rise (rising_filter 0 k.next_xid due (accepted ++ waits) link_rises) kept_due due_kept
 
   -- ---- No answer waits
 

@@ -13,7 +13,6 @@ use Rattle.nr_world.specs.declared.world.World.{World}
 use Rattle.nr_world.specs.private.Stands.{drill_setting, WorldStands}
 use Rattle.nr_world.specs.private.Results.{AreEndsOf, ReportsWorld}
 use Rattle.nr_world.proofs.Rounds.{links_from, no_links}
-use Rattle.nr_drill.proofs.FirstLines.{drill_script}
 
 abbrev pub ends_from : Option End → Option End → Bool → LinkEnds
 ends_from client server dropped = record { client = client; server = server; dropped = dropped }
@@ -50,6 +49,6 @@ tells_world w run clients ends report same owners are tells tree script d h is d
     let server = server_of (drill_setup tree script.opening) in
     let s : Setting = drill_setting tree script.opening in
     let of_drill : ReportsRuns d.marks clients ends report = subst (λ (r : List Mark). ReportsRuns r clients ends report) (same ∙ h.opened.marks) tells in
-    of_drill server script (drill_script script is) drill refl
+    of_drill server script is drill refl
     (owners ∙ h.owners ∙ (λ i. map (client_of (setting_now s (sym last_is i))) (links_of (length (sym last_is i).opened))))
     (are tree script.opening d h ∙ (λ i. map (ends_of (setting_now s (sym last_is i)) d.marks) (sym last_is i).last_links))

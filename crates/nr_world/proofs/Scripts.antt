@@ -18,17 +18,16 @@ use Rattle.nr_world.specs.private.Results.{ReportsWorld}
 use Rattle.nr_world.specs.private.Stands.{drill_setting, MakesLines, HasOpened, WorldStands, MayRejoin, MayRejoinIn}
 use Rattle.nr_world.specs.private.Within.{IsClient, IsLineWithin, AreWithin, CanMakeAll}
 use Rattle.nr_world.proofs.SameServer.{openings_clock}
-use Rattle.nr_drill.proofs.FirstLines.{both_true, drill_script}
+use Rattle.nr_drill.proofs.FirstLines.{both_true}
 use Rattle.nr_drill.proofs.Actions.{ActsIn, AnyRaw, IsLastOf, IsLineOf, all_act, line_kept, lines_of}
 use Rattle.nr_drill.proofs.Actions.Action.{DropLink}
-use Rattle.nr_drill.proofs.BegunLinks.{AreOpen, Holds, begins_so, first_owner, first_then, holds_kept, index_map, index_range, new_holds, open_drill, opened_count, first_count}
+use Rattle.nr_drill.proofs.BegunLinks.{AreOpen, Holds, first_owner, first_then, holds_kept, index_map, index_range, open_drill, opened_count, first_count}
 use Rattle.nr_drill.proofs.Lawful.{asked_so_far}
 use Rattle.nr_drill.proofs.Links.{DrillHolds, LinkHolds}
 use Rattle.nr_drill.proofs.OneRun.{made_once}
 use Rattle.nr_drill.specs.InBytes.{RepliedInBytes, RepliedMark}
 use Rattle.nr_reduce.proofs.Standing.{AtEachMark_more}
 use Rattle.nr_reduce.proofs.Steps.{client_one}
-use Rattle.nr_reduce.specs.Opening.{IsOpened}
 use Rattle.nr_script.specs.Limits.{lines_max}
 use Rattle.nr_world.specs.Steps.{MayLeave, OpensServerSo}
 use Rattle.nr_reduce.specs.Run.{client}
@@ -102,7 +101,7 @@ pub first_world : (tree : Tree) (script : ScriptLines) (w : World) → IsScript 
 first_world tree script w is h = record {
   opened = subst (λ (t : Setting). HasOpened tree script.opening t clients d w) (sym at_first) h.opened;
   frame = record {
-    count = first_count server script (drill_script script is);
+    count = first_count server script is;
     pipes = first.room ∙ sym many;
     owned = λ c low high. subst (λ (l : ℕ). IsLink d l × (client_of (setting_now s d) l ≡ c)) (sym (last_is c low))
         ((low, omega (arith, high, many)), subst (λ (t : Setting). client_of t c ≡ c) (sym at_first) (first_owner script.opening c));
@@ -125,10 +124,10 @@ first_world tree script w is h = record {
     d = opened_drill server script.opening
 
     first : AreOpen server script clients d
-    first = open_drill server script (drill_script script is)
+    first = open_drill server script is
 
     many : length d.opened ≡ clients
-    many = opened_count server script (drill_script script is)
+    many = opened_count server script is
 
     last_is : (c : ℕ) → 1 ≤ c → last_link c d ≡ c
     last_is c low = ap (λ (ls : List ℕ). slice_index_or ls (c - 1) c) first.last_links ∙ index_range 1 clients (c - 1) c (omega (arith, low))
@@ -143,17 +142,14 @@ first_world tree script w is h = record {
 drop_client : (o : LinkParameters) (link : ℕ) (run : List Mark) → client o link (run ++ marks.Drop link ∷ []) ≡ client o link run
 drop_client o link run = client_one o link run (marks.Drop link)
 
-may_leave : (s : Setting) (opening : Opening) (n c link : ℕ) (d : Drill) → suc n ≤ lines_max → IsLastOf opening.clients c link d → opening.numbered ≡ true → (client ((setting_now s d).opened link) link d.marks).ended ≡ None → DrillHolds s opening n d →
+may_leave : (s : Setting) (opening : Opening) (n c link : ℕ) (d : Drill) → IsLastOf opening.clients c link d → opening.numbered ≡ true → (client ((setting_now s d).opened link) link d.marks).ended ≡ None → DrillHolds s opening n d →
     MayLeave ((setting_now s d).opened link) link d.marks
-may_leave s opening n c link d within last numbered stays h =
+may_leave s opening n c link d last numbered stays h =
     let k : LinkHolds opening n ((setting_now s d).opened link) link d.marks = h.links link (h.frame.owned c link last).0 in
-    let next = new_holds s opening n c link d within last numbered stays h in
-    let begun = begins_so s opening n c link d within last numbered stays h in
     record {
       numbered = k.terms.numbered numbered;
       typed = h.typed.typed;
       opens = k.opened;
-      opens_next = subst IsOpened begun.new_link next.opened;
       asked = asked_so_far ((setting_now s d).opened link) link d.marks k.lawful;
       none_due = k.due;
       stays = stays;
@@ -169,12 +165,12 @@ may_rejoin s opening n c d within here numbered holds replied stays = by (is_dro
     last = record { low = here.0; high = here.1; is = refl }
 
     by : (b : Bool) → is_dropped link d.marks ≡ b → MayLeave ((setting_now s d).opened link) link (after_drop_if b link d).marks
-    by true gone = may_leave s opening n c link d within last numbered stays (holds.1 (omega (arith, within)) replied)
+    by true gone = may_leave s opening n c link d last numbered stays (holds.1 (omega (arith, within)) replied)
     by false stands =
         let dropped : Drill = after_drop link d in
         let still : Holds s opening n dropped = (holds_kept s opening AnyRaw AnyRaw).action n c link DropLink d last tt tt holds in
         let also : RepliedInBytes dropped.marks = AtEachMark_more RepliedMark [] d.marks (marks.Drop link) replied tt in
-        may_leave s opening n c link dropped within (record { low = here.0; high = here.1; is = refl }) numbered (ap (λ (r : EndState ClientState). r.ended) (drop_client ((setting_now s d).opened link) link d.marks) ∙ stays)
+        may_leave s opening n c link dropped (record { low = here.0; high = here.1; is = refl }) numbered (ap (λ (r : EndState ClientState). r.ended) (drop_client ((setting_now s d).opened link) link d.marks) ∙ stays)
         (still.1 (omega (arith, within)) also)
 
 may_one : (s : Setting) (opening : Opening) (n : ℕ) (line : Line) (d : Drill) → suc n ≤ lines_max → IsLineOf opening AnyRaw line → Holds s opening n d → MayRejoin s line d
@@ -203,8 +199,8 @@ may_all s opening n (line ∷ all) d within are acts h = (
 pub script_may : (tree : Tree) (script : ScriptLines) → IsScript script →
     MayRejoinIn (drill_setting tree script.opening) script.opening.clients script.lines (opened_drill (server_of (drill_setup tree script.opening)) script.opening)
 script_may tree script is =
-    may_all (drill_setting tree script.opening) script.opening 0 script.lines (opened_drill (server_of (drill_setup tree script.opening)) script.opening) (let few = is.few_lines in omega (arith, few)) (lines_of script (drill_script script is)) (all_act script.lines)
-    (first_then (server_of (drill_setup tree script.opening)) script (drill_script script is))
+    may_all (drill_setting tree script.opening) script.opening 0 script.lines (opened_drill (server_of (drill_setup tree script.opening)) script.opening) (let few = is.few_lines in omega (arith, few)) (lines_of script is) (all_act script.lines)
+    (first_then (server_of (drill_setup tree script.opening)) script is)
 
 -- a world that has just opened can make all lines of the script
 pub lines_fit : (script : ScriptLines) (w : World) → IsScript script → HasOpenLinks script.opening w → CanMakeAll script.lines w
@@ -222,7 +218,7 @@ runs_script script w n report is (tree, sane, stands) makes told =
     let server = server_of (drill_setup tree script.opening) in
     let (last, made, there) = makes tree script.opening (opened_drill server script.opening) (first_world tree script w is stands) (script_may tree script is) in
     let follows : Follows server script last.marks = record { last = last; makes = made; marks_are = refl } in
-    let run = drill_is_run tree script last.marks sane.sane (drill_script script is) there.opened.replies follows in
+    let run = drill_is_run tree script last.marks sane.sane is there.opened.replies follows in
     (tree, sane.drill, told tree script last there is run (made_once (drill_setting tree script.opening) script.opening.clients script.lines (opened_drill server script.opening) run.follows.last last run.follows.makes made))
 
 -- as many links as clients, at most as many as a script has

@@ -90,13 +90,12 @@ Opens link opening v run run' =
 
 -- ---- A client leaves its link and begins the next one
 
--- It may leave its link: it has a number and its client hasn't ended, the link and the next one are in range, the marks are typed, the client kept its
--- law, and no outcome is due.
+-- It may leave its link: it has a number and its client hasn't ended, the link was opened in range, the marks are typed, the client kept its law, and
+-- no outcome is due.
 pub record MayLeave (opened : LinkParameters) (link : ℕ) (run : List Mark) : Type 0 where
   pub numbered : opened.client.number ≢ 0
   pub typed : IsTyped run
   pub opens : IsOpened opened
-  pub opens_next : IsOpened (reopened opened link run)
   pub asked : AskedSoFar opened link run
   pub none_due : outcomes_due opened link run ≡ []
   pub stays : (client opened link run).ended ≡ None

@@ -10,9 +10,10 @@ use Rattle.nr_reduce.specs.declared.call.Outcome.{Outcome}
 use Rattle.nr_turnstile.specs.declared.turnstile.Pass.{Pass}
 use Rattle.nr_turnstile.specs.Passes.{mine_of, seen_by}
 use Rattle.nr_turnstile.specs.Rule.{Begins, IsIn, IsOpen}
-use Rattle.nr_shared.specs.declared.call_end.CallEnd.{CallEnd as SharedEnd}
+use Rattle.nr_shared.specs.declared.call_end.CallEnd.{CallEnd}
 use Rattle.nr_shared.specs.declared.entry.Entry.{Entry}
 use Rattle.nr_shared.specs.declared.entry.Entry.TheVariants as entries
+use Rattle.nr_shared.specs.declared.no_dialer.NoDialer.{NoDialer}
 use Rattle.nr_shared.specs.declared.requester_with_sink.RequesterWithSink.{RequesterWithSink}
 use Rattle.nr_shared.specs.declared.shared.SharedRequester.{SharedRequester}
 use Rattle.nr_shared.specs.Histories.{closes_of}
@@ -25,7 +26,6 @@ use Rattle.nr_client.specs.declared.jobs.ReadJob.{ReadJob}
 use Rattle.nr_client.specs.Jobs.{AreExchanges, IsExchange, IsPiece, LacksAnswer, ReadsByJobs}
 use Rattle.nr_client.specs.Reading.{file_read, piece_left, read_call}
 use Rattle.nr_client.specs.Reading.FileRead.{SizeKnown}
-use Rattle.nr_client.specs.Shared.{shared_end}
 
 -- a caller has seen more and has more places
 pub record Grows {O C : Type 0} (p q : Pass (RequesterWithSink O C) Entry) : Type 0 where
@@ -38,7 +38,7 @@ IsRuleOf allows uid gid file size = (call : Call) → IsPiece uid gid file size 
 
 -- why a call has no outcome: for this cause, or memory ran out
 abbrev pub HasNone : {O C : Type 0} → Call → ClientEnd → Pass (RequesterWithSink O C) Entry → Type 0
-HasNone call end p = (end ≡ client.Memory) ⊎ ((cause : SharedEnd) × ((end ≡ client.Link (shared_end cause)) × LacksAnswer (seen_by p) call cause))
+HasNone call end p = (end ≡ client.Memory) ⊎ ((cause : CallEnd) × ((end ≡ client.Link cause) × LacksAnswer (seen_by p) call cause))
 
 -- the outcome of the READ of a piece, if it has one, is that of an exchange of the caller's
 abbrev pub IsFetched : (uid gid : ℕ) → (file : List ℕ) → (size at : ℕ) → Option Outcome → (seen : List Entry) → (mine : List ℕ) → Type 0
@@ -90,9 +90,9 @@ IsUpTo size at end = (at ≡ end) ⊎ ((at < end) × (at + piece_left size at �
 
 module _ {I O C : Type 0} where
   -- a job whose pass a caller can take back, with the pieces that it has read
-  abbrev pub IsDone : SharedRequester I O C → (uid gid : ℕ) → (file : List ℕ) → (size : ℕ) → ReadJob I O C → Type 0
+  abbrev pub IsDone : SharedRequester I O C (NoDialer I O) → (uid gid : ℕ) → (file : List ℕ) → (size : ℕ) → ReadJob I O C → Type 0
   IsDone s uid gid file size j = SharedRests s j.pass × AreFetched uid gid file size (seen_by j.pass.main) (mine_of j.pass.main) j.fetched.items
 
   -- a job that may run: its pieces begin before the size, too
-  abbrev pub IsReady : SharedRequester I O C → (uid gid : ℕ) → (file : List ℕ) → (size : ℕ) → ReadJob I O C → Type 0
+  abbrev pub IsReady : SharedRequester I O C (NoDialer I O) → (uid gid : ℕ) → (file : List ℕ) → (size : ℕ) → ReadJob I O C → Type 0
   IsReady s uid gid file size j = IsDone s uid gid file size j × All (λ at. at < size) j.offsets.items

@@ -8,4 +8,4 @@ pub read_all-requires-clause-rests : goal.read_all-requires-clause-rests
 read_all-requires-clause-rests g c κs bounds = subst (All (λ r. SharedRests c.in_ok-shared.shared r.pass)) (sym c.as_mut_slice.ensures.value) c.in-Ok-readers_of.ensures.ok
 
 pub share-requires : goal.share-requires
-share-requires g c = is_initial_history g.O.Sink.taken g.O.Sink.faults c.in-Ok.requester c.args.sink c.in-Ok.ensures.state c.in-Ok.ensures.fed
+share-requires g c = is_initial_history g.O.LinkSink.link g.O.Sink.taken g.O.Sink.faults c.in-Ok.requester c.args.sink c.in-Ok.ensures.state c.in-Ok.ensures.fed

@@ -9,8 +9,8 @@ outcome_of-requires g c = writable c.readdir_call-call.result nfs_program nfs_ve
 
 pub returns-in-Err-clause-asks : goal.returns-in-Err-clause-asks
 returns-in-Err-clause-asks g c =
-    asks_by_end _ (listed_after c.args.listed.now) (readdir_call c.args.uid c.args.gid c.args.dir.now c.args.listed.now.cookie c.args.listed.now.verifier) (g.L.Calls.at c.args.link.now) (g.L.Calls.at c.outcome_of.new.link) c.in-Err.end (c.in-Err.ensures.err _ c.readdir_call-call.ensures)
+    asks_by_end g.L.Calls.relations _ (listed_after c.args.listed.now) (readdir_call c.args.uid c.args.gid c.args.dir.now c.args.listed.now.cookie c.args.listed.now.verifier) (g.L.Calls.at c.args.link.now) (g.L.Calls.at c.outcome_of.new.link) c.in-Err.end (c.in-Err.ensures.err _ c.readdir_call-call.ensures)
 
 pub returns-in-Ok-clause-asks : goal.returns-in-Ok-clause-asks
 returns-in-Ok-clause-asks g c =
-    asks_by_answer (listed_after c.args.listed.now) (readdir_call c.args.uid c.args.gid c.args.dir.now c.args.listed.now.cookie c.args.listed.now.verifier) (g.L.Calls.at c.args.link.now) (g.L.Calls.at c.outcome_of.new.link) c.in-Ok.outcome _ (c.in-Ok.ensures.ok _ c.readdir_call-call.ensures) c.add_outcome.ensures.gives
+    asks_by_answer g.L.Calls.relations (listed_after c.args.listed.now) (readdir_call c.args.uid c.args.gid c.args.dir.now c.args.listed.now.cookie c.args.listed.now.verifier) (g.L.Calls.at c.args.link.now) (g.L.Calls.at c.outcome_of.new.link) c.in-Ok.outcome _ (c.in-Ok.ensures.ok _ c.readdir_call-call.ensures) c.add_outcome.ensures.gives

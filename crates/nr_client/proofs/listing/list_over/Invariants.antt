@@ -7,9 +7,8 @@ use Rattle.nr_client.proofs.listing.list_over.Given as goal
 abbrev pub invariant-loop-listed : goal.invariant-loop-listed
 invariant-loop-listed g l =
     (length l.listed.names ≤ entries_max)
-    × ((g.L.Calls.at l.link).source_faults ≡ (g.L.Calls.at l.fn.link).source_faults)
-    × ((g.L.Calls.at l.link).sink_faults ≡ (g.L.Calls.at l.fn.link).sink_faults)
-    × LeadsTo (list_next l.fn.uid l.fn.gid l.fn.dir) (g.L.Calls.at l.fn.link)
+    × (g.L.Calls.relations.faults (g.L.Calls.at l.link) ≡ g.L.Calls.relations.faults (g.L.Calls.at l.fn.link))
+    × LeadsTo g.L.Calls.relations (list_next l.fn.uid l.fn.gid l.fn.dir) (g.L.Calls.at l.fn.link)
     (list_from l.fn.uid l.fn.gid l.fn.dir l.listed) (g.L.Calls.at l.link)
 
 abbrev pub decreases-loop-listed : goal.decreases-loop-listed

@@ -12,23 +12,23 @@ returns-in-Err-take_oldest-clause-err g c first taken so_far =
 
 pub returns-in-Ok-read_rest-clause-open : goal.returns-in-Ok-read_rest-clause-open
 returns-in-Ok-read_rest-clause-open g c =
-    still_open (g.L.Calls.at c.take_oldest.new.link).requester.state (g.L.Calls.at c.read_rest.new.link).requester.state c.take_oldest.new.tickets.items c.read_rest.ensures.tickets c.take_oldest.ensures.open
+    still_open g.L.Calls.relations (g.L.Calls.at c.take_oldest.new.link) (g.L.Calls.at c.read_rest.new.link) c.take_oldest.new.tickets.items c.read_rest.ensures.tickets c.take_oldest.ensures.open
 
 pub returns-in-Err-read_rest-clause-open : goal.returns-in-Err-read_rest-clause-open
 returns-in-Err-read_rest-clause-open g c =
-    still_open (g.L.Calls.at c.take_oldest.new.link).requester.state (g.L.Calls.at c.read_rest.new.link).requester.state c.take_oldest.new.tickets.items c.read_rest.ensures.tickets c.take_oldest.ensures.open
+    still_open g.L.Calls.relations (g.L.Calls.at c.take_oldest.new.link) (g.L.Calls.at c.read_rest.new.link) c.take_oldest.new.tickets.items c.read_rest.ensures.tickets c.take_oldest.ensures.open
 
 pub returns-in-Ok-read_rest-clause-ahead : goal.returns-in-Ok-read_rest-clause-ahead
 returns-in-Ok-read_rest-clause-ahead g c =
-    piece_done (g.L.Calls.at c.fill.new.link).requester (g.L.Calls.at c.read_rest.new.link).requester c.args.file.now.size c.args.at.now c.read_rest.new.at c.piece_left.result c.fill.new.next c.fill.new.tickets.items c.take_oldest.new.tickets.items
+    piece_done g.L.Calls.relations (g.L.Calls.at c.fill.new.link) (g.L.Calls.at c.read_rest.new.link) c.args.file.now.size c.args.at.now c.read_rest.new.at c.piece_left.result c.fill.new.next c.fill.new.tickets.items c.take_oldest.new.tickets.items
     c.requires.below c.in-Ok-read_rest.ensures.end c.piece_left.ensures.is c.take_oldest.ensures.next c.in-Ok.ensures.ahead
-    (still_open (g.L.Calls.at c.take_oldest.new.link).requester.state (g.L.Calls.at c.read_rest.new.link).requester.state c.take_oldest.new.tickets.items c.read_rest.ensures.tickets c.take_oldest.ensures.open)
+    (still_open g.L.Calls.relations (g.L.Calls.at c.take_oldest.new.link) (g.L.Calls.at c.read_rest.new.link) c.take_oldest.new.tickets.items c.read_rest.ensures.tickets c.take_oldest.ensures.open)
 
 pub returns-in-Ok-read_rest-clause-ok : goal.returns-in-Ok-read_rest-clause-ok
 returns-in-Ok-read_rest-clause-ok g c first taken so_far =
     let ends : c.args.at.now + piece_left c.args.file.now.size c.args.at.now ≡ c.read_rest.new.at = ap (λ (n : ℕ). c.args.at.now + n) (sym c.piece_left.ensures.is) ∙ sym c.in-Ok-read_rest.ensures.end in
     subst
-    (λ (from : ℕ). ReadSoFar c.args.file.now.uid c.args.file.now.gid c.args.file.now.handle.now c.args.file.now.size first taken c.read_rest.new.at from c.take_oldest.new.tickets.items
+    (λ (from : ℕ). ReadSoFar g.L.Calls.relations c.args.file.now.uid c.args.file.now.gid c.args.file.now.handle.now c.args.file.now.size first taken c.read_rest.new.at from c.take_oldest.new.tickets.items
     (g.L.Calls.at c.read_rest.new.link) (g.K.Sink.taken c.read_rest.new.out))
     ends
     (c.in-Ok-read_rest.ensures.ok (c.args.at.now + piece_left c.args.file.now.size c.args.at.now) c.take_oldest.new.tickets.items first taken

@@ -1,8 +1,7 @@
-use Rattle.std.proofs.Common.{inl, inr, refl, ap, subst}
+use Rattle.std.proofs.Common.{inl, inr, refl, subst}
 use Rattle.nr_reduce.specs.declared.call.Call.{Call}
 use Rattle.nr_reduce.specs.declared.call.Form.TheVariants as forms
 use Rattle.nr_turnstile.specs.Passes.{mine_of, seen_by}
-use Rattle.nr_client.specs.declared.client_end.ClientEnd.TheVariants as client
 use Rattle.nr_client.specs.Jobs.{IsExchange, LacksAnswer}
 use Rattle.nr_client.proofs.Outcomes.{same_asked}
 use Rattle.nr_client.proofs.JobCalls.{call_grows, exchanged, grows_none, lacks}
@@ -22,7 +21,7 @@ returns-in-Err-call-clause-err g c asked is =
     inr (
       c.in-Err-call.end,
       (
-        ap client.Link c.of_shared.ensures,
+        refl,
         subst (λ (d : Call). LacksAnswer (seen_by c.call.new.pass.main) d c.in-Err-call.end) (same_asked c.in-Ok.call asked c.in-Ok.is is)
             (lacks c.args.pass.now.main c.call.new.pass.main c.in-Ok.call c.in-Err-call.end c.call.ensures.rests.law c.in-Err-call.ensures.called),
       ),

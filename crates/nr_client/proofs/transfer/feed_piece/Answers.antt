@@ -1,5 +1,5 @@
 use Rattle.std.proofs.Common.{sym, ap, Some, Err, ◌∙◌}
-use Rattle.nr_client.specs.declared.call_end.CallEnd.TheVariants as calls
+use Rattle.nr_shared.specs.declared.call_end.CallEnd.TheVariants as calls
 use Rattle.nr_client.proofs.Refusals.{not_memory, ok_not_out, not_out}
 use Rattle.nr_client.proofs.transfer.feed_piece.Goals as goal
 

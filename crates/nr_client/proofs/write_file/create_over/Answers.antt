@@ -10,10 +10,10 @@ outcome_of-requires g c = writable c.create_call.result nfs_program nfs_version 
 
 pub returns-in-Err-clause-asks : goal.returns-in-Err-clause-asks
 returns-in-Err-clause-asks g c =
-    asks_by_end (List ℕ) created_file (create_call c.args.uid c.args.gid c.args.dir.now c.args.name.now) (g.L.Calls.at c.args.link.now) (g.L.Calls.at c.outcome_of.new.link)
+    asks_by_end g.L.Calls.relations (List ℕ) created_file (create_call c.args.uid c.args.gid c.args.dir.now c.args.name.now) (g.L.Calls.at c.args.link.now) (g.L.Calls.at c.outcome_of.new.link)
     c.in-Err.end (c.in-Err.ensures.err _ c.create_call.ensures)
 
 pub returns-clause-asks : goal.returns-clause-asks
 returns-clause-asks g c =
-    asks_by_answer created_file (create_call c.args.uid c.args.gid c.args.dir.now c.args.name.now) (g.L.Calls.at c.args.link.now) (g.L.Calls.at c.outcome_of.new.link)
+    asks_by_answer g.L.Calls.relations created_file (create_call c.args.uid c.args.gid c.args.dir.now c.args.name.now) (g.L.Calls.at c.args.link.now) (g.L.Calls.at c.outcome_of.new.link)
     c.in-Ok.outcome c.created_in.result (c.in-Ok.ensures.ok _ c.create_call.ensures) c.created_in.ensures.gives

@@ -3,7 +3,7 @@ use Rattle.nr_client.proofs.write_file.write_file_over.Goals as goal
 
 pub returns-in-Err-clause-writes : goal.returns-in-Err-clause-writes
 returns-in-Err-clause-writes g c =
-    read_failed c.args.uid c.args.gid c.args.dir.now c.args.name.now (g.L.Calls.at c.args.link.now) c.wanted_at.result
+    read_failed g.L.Calls.relations c.args.uid c.args.gid c.args.dir.now c.args.name.now (g.L.Calls.at c.args.link.now) c.wanted_at.result
     (g.N.Source.left c.args.input.now) (g.N.Source.given c.args.input.now) (g.N.Source.left c.fill.new.input) (g.N.Source.given c.fill.new.input) c.new-window.result c.fill.new.self c.in-Err.end c.wanted_at.ensures.is c.new-window.ensures c.fill.ensures.takes c.in-Err.ensures.of_input
 
 pub returns-in-Err-clause-input_stops : goal.returns-in-Err-clause-input_stops

@@ -3,17 +3,17 @@ use Rattle.nr_client.proofs.write_file.write_next.Goals as goal
 
 pub returns-in-Err-clause-err : goal.returns-in-Err-clause-err
 returns-in-Err-clause-err g c =
-    failed_by c.args.uid c.args.gid c.args.file.now c.kept.result.now c.args.at.now c.args.window.now (g.L.Calls.at c.args.link.now) (g.L.Calls.at c.write_piece.new.link) (g.N.Source.left c.args.input.now) (g.N.Source.given c.args.input.now) c.in-Err.end
+    failed_by g.L.Calls.relations c.args.uid c.args.gid c.args.file.now c.kept.result.now c.args.at.now c.args.window.now (g.L.Calls.at c.args.link.now) (g.L.Calls.at c.write_piece.new.link) (g.N.Source.left c.args.input.now) (g.N.Source.given c.args.input.now) c.in-Err.end
     c.requires.ready c.requires.below c.requires.some c.kept.ensures.is c.in-Err.ensures.of_call c.in-Err.ensures.err
 
 pub returns-in-Ok-fill-clause-ok : goal.returns-in-Ok-fill-clause-ok
 returns-in-Ok-fill-clause-ok g c =
-    on_by c.args.uid c.args.gid c.args.file.now c.kept.result.now c.args.at.now c.in-Ok.count c.wanted_at.result c.args.window.now c.discard.new.self c.fill.new.self (g.L.Calls.at c.args.link.now) (g.L.Calls.at c.write_piece.new.link) (g.N.Source.left c.args.input.now) (g.N.Source.given c.args.input.now) (g.N.Source.left c.fill.new.input) (g.N.Source.given c.fill.new.input)
+    on_by g.L.Calls.relations c.args.uid c.args.gid c.args.file.now c.kept.result.now c.args.at.now c.in-Ok.count c.wanted_at.result c.args.window.now c.discard.new.self c.fill.new.self (g.L.Calls.at c.args.link.now) (g.L.Calls.at c.write_piece.new.link) (g.N.Source.left c.args.input.now) (g.N.Source.given c.args.input.now) (g.N.Source.left c.fill.new.input) (g.N.Source.given c.fill.new.input)
     c.requires.ready c.requires.below c.requires.some c.kept.ensures.is c.in-Ok.ensures.within c.in-Ok.ensures.ok c.discard.ensures c.wanted_at.ensures.is c.fill.ensures.takes
 
 pub returns-in-Err-fill-clause-err : goal.returns-in-Err-fill-clause-err
 returns-in-Err-fill-clause-err g c =
-    stopped_by c.args.uid c.args.gid c.args.file.now c.kept.result.now c.args.at.now c.in-Ok.count c.wanted_at.result c.args.window.now c.discard.new.self c.fill.new.self (g.L.Calls.at c.args.link.now) (g.L.Calls.at c.write_piece.new.link) (g.N.Source.left c.args.input.now) (g.N.Source.given c.args.input.now) (g.N.Source.left c.fill.new.input) (g.N.Source.given c.fill.new.input) c.in-Err-fill.end
+    stopped_by g.L.Calls.relations c.args.uid c.args.gid c.args.file.now c.kept.result.now c.args.at.now c.in-Ok.count c.wanted_at.result c.args.window.now c.discard.new.self c.fill.new.self (g.L.Calls.at c.args.link.now) (g.L.Calls.at c.write_piece.new.link) (g.N.Source.left c.args.input.now) (g.N.Source.given c.args.input.now) (g.N.Source.left c.fill.new.input) (g.N.Source.given c.fill.new.input) c.in-Err-fill.end
     c.requires.ready c.requires.below c.requires.some c.kept.ensures.is c.in-Ok.ensures.within c.in-Ok.ensures.ok c.discard.ensures c.wanted_at.ensures.is c.fill.ensures.takes c.in-Err-fill.ensures.of_input
 
 pub returns-in-Err-clause-input_stops : goal.returns-in-Err-clause-input_stops

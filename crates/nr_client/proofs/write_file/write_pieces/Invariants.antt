@@ -7,10 +7,9 @@ use Rattle.nr_client.proofs.write_file.write_pieces.Given as goal
 abbrev pub invariant-pieces : goal.invariant-pieces
 invariant-pieces g l =
     IsReadyAt l.at (g.N.Source.left l.input) l.window
-    × StreamsOn l.uid l.gid l.file 0 l.at l.initial.window l.window (g.L.Calls.at l.initial.link) (g.L.Calls.at l.link) (g.N.Source.left l.initial.input) (g.N.Source.given l.initial.input) (g.N.Source.left l.input) (g.N.Source.given l.input)
+    × StreamsOn g.L.Calls.relations l.uid l.gid l.file 0 l.at l.initial.window l.window (g.L.Calls.at l.initial.link) (g.L.Calls.at l.link) (g.N.Source.left l.initial.input) (g.N.Source.given l.initial.input) (g.N.Source.left l.input) (g.N.Source.given l.input)
     × (g.N.Source.faults l.input ≡ g.N.Source.faults l.initial.input)
-    × ((g.L.Calls.at l.link).source_faults ≡ (g.L.Calls.at l.initial.link).source_faults)
-    × ((g.L.Calls.at l.link).sink_faults ≡ (g.L.Calls.at l.initial.link).sink_faults)
+    × (g.L.Calls.relations.faults (g.L.Calls.at l.link) ≡ g.L.Calls.relations.faults (g.L.Calls.at l.initial.link))
 
 abbrev pub decreases-pieces : goal.decreases-pieces
 decreases-pieces g l = input_max - l.at

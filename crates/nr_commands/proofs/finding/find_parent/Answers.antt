@@ -1,16 +1,16 @@
 use Rattle.std.proofs.Common.{ℕ, List, subst}
-use Rattle.nr_commands.specs.Commands.{Mounts}
-use Rattle.nr_commands.specs.Sessions.{Requests}
+use Rattle.nr_commands.specs.Commands.{MountsOver}
+use Rattle.nr_commands.specs.Sessions.{RequestsOver}
 use Rattle.nr_commands.proofs.Parts.{then_ends, then_goes, with_user}
 use Rattle.nr_client.specs.Walking.{parent_next}
 use Rattle.nr_commands.proofs.finding.find_parent.Goals as goal
 
 pub returns-in-Err-clause-part : goal.returns-in-Err-clause-part
-returns-in-Err-clause-part g c = then_ends (Mounts c.args.session.now.uid c.args.session.now.gid c.args.export.now) (λ root. Requests (parent_next c.args.session.now.uid c.args.session.now.gid root c.args.path.now)) (g.L.Calls.at c.args.session.now.link) (g.L.Calls.at c.mount.new.session.link) c.mount.result c.in-Err.end c.in-Err.is c.mount.ensures.part
+returns-in-Err-clause-part g c = then_ends (MountsOver g.L.Calls.relations c.args.session.now.uid c.args.session.now.gid c.args.export.now) (λ root. RequestsOver g.L.Calls.relations (parent_next c.args.session.now.uid c.args.session.now.gid root c.args.path.now)) (g.L.Calls.at c.args.session.now.link) (g.L.Calls.at c.mount.new.session.link) c.mount.result c.in-Err.end c.in-Err.is c.mount.ensures.part
 
 pub returns-clause-part : goal.returns-clause-part
 returns-clause-part g c =
-    then_goes (Mounts c.args.session.now.uid c.args.session.now.gid c.args.export.now) (λ root. Requests (parent_next c.args.session.now.uid c.args.session.now.gid root c.args.path.now)) (g.L.Calls.at c.args.session.now.link) (g.L.Calls.at c.mount.new.session.link) (g.L.Calls.at c.walk_to_parent.new.self.link) c.mount.result c.in-Ok.root c.walk_to_parent.result c.in-Ok.is c.mount.ensures.part
-    (with_user (λ u v. Requests (parent_next u v c.in-Ok.root c.args.path.now)) c.args.session.now.uid c.args.session.now.gid c.mount.new.session.uid c.mount.new.session.gid (g.L.Calls.at c.mount.new.session.link) (g.L.Calls.at c.walk_to_parent.new.self.link) c.walk_to_parent.result c.mount.ensures.user
-    (subst (λ (bytes : List ℕ). Requests (parent_next c.mount.new.session.uid c.mount.new.session.gid c.in-Ok.root bytes) (g.L.Calls.at c.mount.new.session.link) (g.L.Calls.at c.walk_to_parent.new.self.link) c.walk_to_parent.result) c.as_bytes.ensures.value
-    (c.walk_to_parent.ensures.follows, (c.walk_to_parent.ensures.source_faults, c.walk_to_parent.ensures.sink_faults))))
+    then_goes (MountsOver g.L.Calls.relations c.args.session.now.uid c.args.session.now.gid c.args.export.now) (λ root. RequestsOver g.L.Calls.relations (parent_next c.args.session.now.uid c.args.session.now.gid root c.args.path.now)) (g.L.Calls.at c.args.session.now.link) (g.L.Calls.at c.mount.new.session.link) (g.L.Calls.at c.walk_to_parent.new.self.link) c.mount.result c.in-Ok.root c.walk_to_parent.result c.in-Ok.is c.mount.ensures.part
+    (with_user (λ u v. RequestsOver g.L.Calls.relations (parent_next u v c.in-Ok.root c.args.path.now)) c.args.session.now.uid c.args.session.now.gid c.mount.new.session.uid c.mount.new.session.gid (g.L.Calls.at c.mount.new.session.link) (g.L.Calls.at c.walk_to_parent.new.self.link) c.walk_to_parent.result c.mount.ensures.user
+    (subst (λ (bytes : List ℕ). RequestsOver g.L.Calls.relations (parent_next c.mount.new.session.uid c.mount.new.session.gid c.in-Ok.root bytes) (g.L.Calls.at c.mount.new.session.link) (g.L.Calls.at c.walk_to_parent.new.self.link) c.walk_to_parent.result) c.as_bytes.ensures.value
+    (c.walk_to_parent.ensures.follows, c.walk_to_parent.ensures.faults)))

@@ -1,4 +1,4 @@
-use Rattle.std.proofs.Common.{arith}
+use Rattle.std.proofs.Common.{None, arith, refl}
 use Rattle.std.proofs.lemmas.Result.{IfOk-weaker}
 use Rattle.nr_link.specs.Agreement.{default_terms}
 use Rattle.nr_gateway.specs.Gateways.{gate_credits}
@@ -15,11 +15,12 @@ pub returns-clause-opens : goal.returns-clause-opens
 returns-clause-opens g c =
     IfOk-weaker c.share_remote.result _ _
     (λ t seen. record {
-      initial = record { requester = c.in-Ok.requester; faults = g.K.Sink.faults c.args.sink; taken = g.K.Sink.taken c.args.sink };
+      initial = record { requester = c.in-Ok.requester; sink = record { link = g.K.LinkSink.link c.args.sink; faults = g.K.Sink.faults c.args.sink; taken = g.K.Sink.taken c.args.sink }; tries = None };
       history_is = seen.0;
       own = seen.1;
       stands = c.in-Ok.ensures.stands;
       nothing_taken = c.requires.nothing_taken;
       no_fault = c.requires.no_sink_fault;
+      once = refl;
     })
     c.share_remote.ensures.seen
