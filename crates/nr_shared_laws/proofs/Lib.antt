@@ -1,0 +1,5 @@
+pub mod Following
+pub mod Prefixes
+pub mod GoingOn
+pub mod Sessions
+pub mod Once
