@@ -170,7 +170,7 @@ output_kept uid gid export (actions.Get path) input input' out out' v w text is 
 
 module _ (c : NumberedClient Text) (dialer dialer' dialed : DialerAt) (input input' : SourceAt) (out out' : SinkAt) (source : SourceView) (v v' : CallerView) (result : Result (Unit {0}) ClientEnd)
     (opens : OpensFirst c dialer dialed source v) (prints : PrintsShared c v v' input input' out out' result) (closes : ClosesLast c source dialed v' dialer') where
-  first : InitialState
+  abbrev first : InitialState
   first = record { requester = opens.requester; sink = opens.sink; tries = Some c.tries }
 
   abbrev F : ClientEnd → Type 0
