@@ -18,8 +18,9 @@ use Rattle.nr_shared.specs.Callers.{KeepsLaw}
 use Rattle.nr_shared.specs.Ending.{IsCause, LinkEnded, LossEnds}
 use Rattle.nr_shared.specs.Histories.{IsCallAt, submitted_call, tries_of}
 use Rattle.nr_shared.proofs.Adding.{at_one, begins_then}
+use Rattle.nr_shared.proofs.Asking.{some_same}
 use Rattle.nr_shared.proofs.Lists.{at_below, in_either, in_more}
-use Rattle.nr_client.specs.CallerViews.{AddsTo, AnswersBy, CallerView, CompletesBy, ForgetsBy, ForgetsCallBy, ForgottenBy, GivesUpBy, LooksBy, RefusesBy, SubmitsBy}
+use Rattle.nr_client.specs.CallerViews.{AddsTo, AnswersBy, CallerView, CompletesBy, ForgetsBy, ForgetsCallBy, ForgottenBy, GivesUpBy, HasCallAt, IsOpenAt, RefusesBy}
 use Rattle.nr_client.proofs.CallerTickets.{IsKnown}
 use Rattle.nr_service_laws.specs.Exchanges.{Exchange}
 use Rattle.nr_service_laws.specs.Exchanges.Exchange.{Answered}
@@ -153,7 +154,7 @@ pub completed_so : (v w u : CallerView) (xid : ℕ) (outcome : Outcome) (c : Com
 completed_so v w u xid outcome c g =
     let last : Entry = entries.Done xid outcome c.at in
     let (k, (i, at)) = done_added v w c.writes last c.adds in
-    let (e, (there, is)) = c.had.stands in
+    let (e, there, is) = c.had.stands in
     let (form, (number, same)) = is_submit e xid c.call is in
     let before : get_elem? v.seen c.at ≡ some (entries.Submit c.call form number) = there ∙ ap (λ (x : Entry). some x) same in
     answered_at u.seen u.mine k xid number c.at c.call form outcome (own_on w u g k i) (entry_on w u g k last at)
@@ -199,3 +200,27 @@ grows_up v w call end (inr f) = grows_by v w ((f.writes_before ++ entries.Submit
 pub known_up : (v w : CallerView) (call : Call) (end : CallEnd) → IsKnown v → GivesUpBy v w call end → IsKnown w
 known_up v w call end known (inl r) = known_by v w r.writes_before known r.adds r.law
 known_up v w call end known (inr f) = known_by v w ((f.writes_before ++ entries.Submit call forms.Auto f.xid ∷ f.writes_after) ++ entries.Forget f.xid f.at ∷ []) known f.adds f.law
+
+-- ---- Calls that are open
+
+pub call_on : (v w : CallerView) (xid k : ℕ) (call : Call) → Grows v w → HasCallAt v xid k call → IsOpenAt w k → HasCallAt w xid k call
+call_on v w xid k call g has still = record { stands = by has.stands; open_place = still } where
+  by : IsCallAt v.seen xid k call → IsCallAt w.seen xid k call
+  by (e, at, is) = (e, entry_on v w g k e at, is)
+
+-- two open calls of an xid stand at one place, and are one
+pub same_place : (v : CallerView) (xid j k : ℕ) (c d : Call) → KeepsLaw v.seen → HasCallAt v xid j c → HasCallAt v xid k d → j ≡ k
+same_place v xid j k c d law one two = some_same j k (sym (law.last_open xid j c one.stands one.open_place.1) ∙ law.last_open xid k d two.stands two.open_place.1)
+
+call_at : (seen : List Entry) (xid k : ℕ) (c d : Call) → IsCallAt seen xid k c → IsCallAt seen xid k d → c ≡ d
+call_at seen xid k c d (e, at, is) (f, there, so) = same (sym is ∙ (ap (submitted_call xid) (some-injective e f (sym at ∙ there)) ∙ so)) where
+  or_this : Option Call → Call
+  or_this (Some x) = x
+  or_this None = c
+
+  same : Some c ≡ Some d → c ≡ d
+  same one = ap or_this one
+
+pub same_call : (v : CallerView) (xid j k : ℕ) (c d : Call) → KeepsLaw v.seen → HasCallAt v xid j c → HasCallAt v xid k d → c ≡ d
+same_call v xid j k c d law one two =
+    call_at v.seen xid k c d (subst (λ (n : ℕ). IsCallAt v.seen xid n c) (same_place v xid j k c d law one two) one.stands) two.stands

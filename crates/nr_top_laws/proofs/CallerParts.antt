@@ -1,5 +1,5 @@
 -- The ends of parts of a command over a shared requester: by the calls of the caller's own that were answered, each with its cause if a call has no answer.
-use Rattle.std.proofs.Common.{◌≡◌, ◌≢◌, ◌⊎◌, ⊎_elim, ◌<◌, ℕ, Bool, true, false, List, [], ◌∷◌, ◌++◌, length, ltb-true, Option, None, Some, Result, Ok, Err, inl, inr, refl, sym, ap, subst, ◌∙◌}
+use Rattle.std.proofs.Common.{◌≡◌, ◌≢◌, ◌⊎◌, ◌<◌, ◌≤◌, ℕ, arith, Bool, true, false, List, [], ◌∷◌, ◌++◌, length, ltb-true, Option, None, Some, Result, Ok, Err, inl, inr, refl, sym, ap, subst, ◌∙◌}
 use Rattle.std.specs.Prelude.{IfSome, MatchBool, MatchResult, nat_lt}
 use Rattle.std.specs.Io.KnownBytes.{Consumes}
 use Rattle.nr_outside.specs.Faults.{Rises}
@@ -15,9 +15,10 @@ use Rattle.nr_reduce.specs.declared.call.Form.TheVariants as forms
 use Rattle.nr_reduce.specs.declared.call.Outcome.{Outcome}
 use Rattle.nr_shared.specs.declared.call_end.CallEnd.{CallEnd}
 use Rattle.nr_shared.specs.declared.entry.Entry.TheVariants as entries
+use Rattle.nr_shared.proofs.Asking.{asked_just}
 use Rattle.nr_client.specs.declared.client_end.ClientEnd.{ClientEnd}
 use Rattle.nr_client.specs.declared.client_end.ClientEnd.TheVariants as client
-use Rattle.nr_client.specs.CallerViews.{CallerView, open_call_of, shared_relations}
+use Rattle.nr_client.specs.CallerViews.{CallerView, HasCallAt, KeepsOpenAt, KeepsOthersAt, shared_relations}
 use Rattle.nr_client.specs.Following.{EndsWithOver, FollowsOver, MakesCallsOver, Next, UnansweredOver}
 use Rattle.nr_client.specs.Following.Next.{Calls, Returns}
 use Rattle.nr_client.specs.Listing.{list_next}
@@ -25,13 +26,12 @@ use Rattle.nr_client.specs.Paths.{path_names}
 use Rattle.nr_client.specs.Reading.{EndsReadingOver, ForgetsCallsOver, InputFaults, LeadsOver, OpenRead, OutputFaults, ReadStepOver, ReadingOver, ReadsFileOver, reading, starts_at, xids_of}
 use Rattle.nr_client.specs.Reading.ReadStepOver.{AsksAhead, Looks, MakesAlone, TakesOldest}
 use Rattle.nr_client.specs.Reading.EndsReadingOver.{EndsByReplies, NotAnswered, NotSubmitted, OldestForgotten, OutputFails}
-use Rattle.nr_client.specs.Relations.{ClosesTicketOver, KeepsTicketsOver, OpensTicketOver}
 use Rattle.nr_client.specs.Requests.{AsksOver, create_result, getattr_call, getattr_result, mkdir_call, mnt_call, mnt_result, readlink_call, readlink_result, remove_call, remove_result, symlink_call}
 use Rattle.nr_client.specs.Results.{Gives}
 use Rattle.nr_client.specs.Walking.{parent_next, walk_next}
 use Rattle.nr_client.specs.Writing.{EndsWritingOver, writing}
 use Rattle.nr_client.specs.Writing.EndsWritingOver.{FollowsInput, InputFails}
-use Rattle.nr_client.proofs.CallerTickets.{IsKnown, open_so, ticket_of_completed, ticket_of_submitted, tickets_of_answer, tickets_of_look}
+use Rattle.nr_client.proofs.CallerTickets.{IsKnown}
 use Rattle.nr_commands.specs.Commands.{FindsOver, FindsParentOver, GetsOver, IsSilent, ListsOver, MakesDirectoryOver, MakesSymlinkOver, MountsAndPrintsOver, MountsOver, PutsOver, ReadsLinkOver, ReadsOutOver, RemovesOver, StatsOver, SymlinksOver, WritesInOver}
 use Rattle.nr_commands.specs.Printed.{attributes_text, handle_text, names_text, path_text}
 use Rattle.nr_commands.specs.Running.{text_of_over}
@@ -40,7 +40,7 @@ use Rattle.nr_service_laws.specs.ReplyEnds.{AreAnswers, IsAnsweredBy}
 use Rattle.nr_service_laws.proofs.Judged.{Any, BadParent, IsReadEnd, Judgement, NextIs, RequestIs, ResultIs, answers_more, list_is, parent_is, reading_is, walk_is, writing_is}
 use Rattle.nr_service_laws.proofs.JudgedCommands.{WordsGive}
 use Rattle.nr_top_laws.specs.NumberedStatuses.{HasCause, answered_calls}
-use Rattle.nr_top_laws.proofs.CallerExchanges.{Grows, answered_so, cause_on, completed_so, forgotten_cause, gone_cause, grows_both, grows_by, grows_not, grows_up, known_by, known_up, refused_cause}
+use Rattle.nr_top_laws.proofs.CallerExchanges.{Grows, answered_so, call_on, cause_on, completed_so, forgotten_cause, gone_cause, grows_both, grows_by, grows_not, grows_up, known_by, known_up, refused_cause, same_call, same_place}
 
 -- ---- Ends
 
@@ -212,74 +212,86 @@ module _ (u : CallerView) where
 
   -- ---- A file that is read
 
-  abbrev NoneOf : ℕ → List OpenRead → Type 0
-  NoneOf xid [] = Unit {0}
-  NoneOf xid (read ∷ reads) = (read.xid ≢ xid) × NoneOf xid reads
+  abbrev NoneOf : ℕ → List ℕ → Type 0
+  NoneOf k [] = Unit {0}
+  NoneOf k (j ∷ js) = (j ≢ k) × NoneOf k js
 
-  -- the READs that wait are the open calls of their xids, each of another one
-  abbrev AreOpen : CallerView → List OpenRead → Type 0
-  AreOpen v [] = Unit {0}
-  AreOpen v (read ∷ reads) = (open_call_of v read.xid ≡ Some read.call) × (NoneOf read.xid reads × AreOpen v reads)
+  -- the READs that wait are open calls at these places, each at another one
+  abbrev AreOpen : CallerView → List OpenRead → List ℕ → Type 0
+  AreOpen v [] [] = Unit {0}
+  AreOpen v (read ∷ reads) (k ∷ ks) = HasCallAt v read.xid k read.call × (NoneOf k ks × AreOpen v reads ks)
+  AreOpen v reads ks = ⊥
 
-  same_calls : (v w : CallerView) (reads : List OpenRead) → ((x : ℕ) → open_call_of w x ≡ open_call_of v x) → AreOpen v reads → AreOpen w reads
-  same_calls v w [] same are = tt
-  same_calls v w (read ∷ reads) same (is, (apart, are)) = (same read.xid ∙ is, (apart, same_calls v w reads same are))
+  first_open : (v : CallerView) (read : OpenRead) (reads : List OpenRead) (ks : List ℕ) → AreOpen v (read ∷ reads) ks → (k : ℕ) × ((js : List ℕ) × (HasCallAt v read.xid k read.call × (NoneOf k js × AreOpen v reads js)))
+  first_open v read reads [] are = absurd are
+  first_open v read reads (k ∷ js) are = (k, (js, are))
 
-  other_calls : (v w : CallerView) (xid : ℕ) (reads : List OpenRead) → ((x : ℕ) → x ≢ xid → open_call_of w x ≡ open_call_of v x) → NoneOf xid reads → AreOpen v reads → AreOpen w reads
-  other_calls v w xid [] same none are = tt
-  other_calls v w xid (read ∷ reads) same (here, none) (is, (apart, are)) = (same read.xid here ∙ is, (apart, other_calls v w xid reads same none are))
+  all_open : (v w : CallerView) (reads : List OpenRead) (ks : List ℕ) → Grows v w → KeepsOpenAt v w → AreOpen v reads ks → AreOpen w reads ks
+  all_open v w [] [] g keeps are = tt
+  all_open v w (read ∷ reads) (k ∷ ks) g keeps (has, (apart, are)) = (call_on v w read.xid k read.call g has (keeps k has.open_place), (apart, all_open v w reads ks g keeps are))
+  all_open v w [] (k ∷ ks) g keeps are = absurd are
+  all_open v w (read ∷ reads) [] g keeps are = absurd are
 
-  fresh_apart : (v : CallerView) (xid : ℕ) (reads : List OpenRead) → open_call_of v xid ≡ None → AreOpen v reads → NoneOf xid reads
-  fresh_apart v xid [] fresh are = tt
-  fresh_apart v xid (read ∷ reads) fresh (is, (apart, are)) =
-      ((λ same. (let wrong : Some read.call ≡ None = sym is ∙ (ap (λ (x : ℕ). open_call_of v x) same ∙ fresh) in absurd cc)), fresh_apart v xid reads fresh are)
+  others_open : (v w : CallerView) (at : ℕ) (reads : List OpenRead) (ks : List ℕ) → Grows v w → KeepsOthersAt at v w → NoneOf at ks → AreOpen v reads ks → AreOpen w reads ks
+  others_open v w at [] [] g keeps none are = tt
+  others_open v w at (read ∷ reads) (k ∷ ks) g keeps (other, none) (has, (apart, are)) =
+      (call_on v w read.xid k read.call g has (keeps k other has.open_place), (apart, others_open v w at reads ks g keeps none are))
+  others_open v w at [] (k ∷ ks) g keeps none are = absurd are
+  others_open v w at (read ∷ reads) [] g keeps none are = absurd are
 
-  none_last : (xid : ℕ) (read : OpenRead) (reads : List OpenRead) → NoneOf xid reads → read.xid ≢ xid → NoneOf xid (reads ++ read ∷ [])
-  none_last xid read [] none other = (other, tt)
-  none_last xid read (one ∷ reads) (here, none) other = (here, none_last xid read reads none other)
+  new_apart : (v : CallerView) (at : ℕ) (reads : List OpenRead) (ks : List ℕ) → IsKnown v → length v.seen ≤ at → AreOpen v reads ks → NoneOf at ks
+  new_apart v at [] [] known new are = tt
+  new_apart v at (read ∷ reads) (k ∷ ks) known new (has, (apart, are)) = ((λ same. (let l = known.lies k has.open_place.0 in omega (arith, l, new, same))), new_apart v at reads ks known new are)
+  new_apart v at [] (k ∷ ks) known new are = absurd are
+  new_apart v at (read ∷ reads) [] known new are = absurd are
 
-  open_last : (w : CallerView) (read : OpenRead) (reads : List OpenRead) → AreOpen w reads → NoneOf read.xid reads → open_call_of w read.xid ≡ Some read.call → AreOpen w (reads ++ read ∷ [])
-  open_last w read [] are none is = (is, (tt, tt))
-  open_last w read (one ∷ reads) (here, (apart, are)) (other, none) is = (here, (none_last one.xid read reads apart (λ same. other (sym same)), open_last w read reads are none is))
+  none_last : (j k : ℕ) (ks : List ℕ) → NoneOf j ks → k ≢ j → NoneOf j (ks ++ k ∷ [])
+  none_last j k [] none other = (other, tt)
+  none_last j k (one ∷ ks) (here, none) other = (here, none_last j k ks none other)
+
+  open_last : (w : CallerView) (read : OpenRead) (reads : List OpenRead) (k : ℕ) (ks : List ℕ) → AreOpen w reads ks → NoneOf k ks → HasCallAt w read.xid k read.call → AreOpen w (reads ++ read ∷ []) (ks ++ k ∷ [])
+  open_last w read [] k [] are none has = (has, (tt, tt))
+  open_last w read (one ∷ reads) k (j ∷ ks) (here, (apart, are)) (other, none) has = (here, (none_last j k ks apart (λ same. other (sym same)), open_last w read reads k ks are none has))
+  open_last w read [] k (j ∷ ks) are none has = absurd are
+  open_last w read (one ∷ reads) k [] are none has = absurd are
 
   record ReadSoFar (uid gid : ℕ) (file : List ℕ) (s : ReadingOver CallerView) : Type 0 where
     known : IsKnown s.link
-    open_reads : AreOpen s.link s.waiting
+    places : List ℕ
+    open_reads : AreOpen s.link s.waiting places
     answers : Grows s.link u → AreAnswers R (reading uid gid file) s.outcomes
-
-  call_same : (c d : Call) → Some c ≡ Some d → c ≡ d
-  call_same c d same = ap (λ (o : Option Call). or_this o) same where
-    or_this : Option Call → Call
-    or_this (Some x) = x
-    or_this None = c
 
   step_in : (uid gid : ℕ) (file : List ℕ) (s t : ReadingOver CallerView) → ReadStepOver shared_relations uid gid file s t → ReadSoFar uid gid file s → Grows s.link t.link × ReadSoFar uid gid file t
   step_in uid gid file s t (MakesAlone call outcome alone answers replies waits) so_far =
       let m = answer_moves call outcome s.link t.link answers so_far.known in
       (m.0, record {
         known = m.1;
-        open_reads = subst (λ (reads : List OpenRead). AreOpen t.link reads) (sym waits) (same_calls s.link t.link s.waiting (tickets_of_answer s.link t.link call outcome so_far.known answers) so_far.open_reads);
+        places = so_far.places;
+        open_reads = subst (λ (reads : List OpenRead). AreOpen t.link reads so_far.places) (sym waits) (all_open s.link t.link s.waiting so_far.places m.0 answers.keeps so_far.open_reads);
         answers = λ g. subst (λ (os : List Outcome). AreAnswers R (reading uid gid file) os) (sym replies)
             (answers_more R (reading uid gid file) s.outcomes call outcome (so_far.answers (grows_both s.link t.link u m.0 g)) alone.0 (answered_so s.link t.link u call outcome answers g));
       })
   step_in uid gid file s t (AsksAhead read ahead submits replies waits) so_far =
       let grown = grows_by s.link t.link (submits.writes_before ++ entries.Submit read.call forms.Auto read.xid ∷ submits.writes_after) submits.adds in
-      let ticket = ticket_of_submitted s.link t.link read.call read.xid so_far.known submits in
-      let none = fresh_apart s.link read.xid s.waiting ticket.fresh so_far.open_reads in
+      let none = new_apart s.link submits.at s.waiting so_far.places so_far.known submits.new so_far.open_reads in
+      let has : HasCallAt t.link read.xid submits.at read.call = record { stands = (entries.Submit read.call forms.Auto read.xid, submits.stands, asked_just read.xid read.call forms.Auto); open_place = submits.opened } in
       (grown, record {
         known = known_by s.link t.link (submits.writes_before ++ entries.Submit read.call forms.Auto read.xid ∷ submits.writes_after) so_far.known submits.adds submits.law;
-        open_reads = subst (λ (reads : List OpenRead). AreOpen t.link reads) (sym waits)
-            (open_last t.link read s.waiting (other_calls s.link t.link read.xid s.waiting ticket.others none so_far.open_reads) none ticket.own);
+        places = so_far.places ++ submits.at ∷ [];
+        open_reads = subst (λ (reads : List OpenRead). AreOpen t.link reads (so_far.places ++ submits.at ∷ [])) (sym waits)
+            (open_last t.link read s.waiting submits.at so_far.places (all_open s.link t.link s.waiting so_far.places grown submits.keeps so_far.open_reads) none has);
         answers = λ g. subst (λ (os : List Outcome). AreAnswers R (reading uid gid file) os) (sym replies) (so_far.answers (grows_both s.link t.link u grown g));
       })
   step_in uid gid file s t (TakesOldest read outcome full is completes replies waits) so_far =
       let es = completes.writes ++ entries.Done read.xid outcome completes.at ∷ [] in
       let grown = grows_by s.link t.link es completes.adds in
-      let all = subst (λ (reads : List OpenRead). AreOpen s.link reads) waits so_far.open_reads in
-      let same : completes.call ≡ read.call = call_same completes.call read.call (sym (open_so s.link read.xid completes.at completes.call so_far.known.law completes.had) ∙ all.0) in
+      let (k, (js, (has, (apart, are)))) = first_open s.link read t.waiting so_far.places (subst (λ (reads : List OpenRead). AreOpen s.link reads so_far.places) waits so_far.open_reads) in
+      let here : k ≡ completes.at = same_place s.link read.xid k completes.at read.call completes.call so_far.known.law has completes.had in
+      let same : completes.call ≡ read.call = sym (same_call s.link read.xid k completes.at read.call completes.call so_far.known.law has completes.had) in
       (grown, record {
         known = known_by s.link t.link es so_far.known completes.adds completes.law;
-        open_reads = other_calls s.link t.link read.xid t.waiting (ticket_of_completed s.link t.link read.xid outcome so_far.known completes).others all.1.0 all.1.1;
+        places = js;
+        open_reads = others_open s.link t.link completes.at t.waiting js grown completes.keeps (subst (λ (n : ℕ). NoneOf n js) here apart) are;
         answers = λ g. subst (λ (os : List Outcome). AreAnswers R (reading uid gid file) os) (sym replies)
             (answers_more R (reading uid gid file) s.outcomes read.call outcome (so_far.answers (grows_both s.link t.link u grown g)) is
             (subst (λ (c : Call). R c outcome) same (completed_so s.link t.link u read.xid outcome completes g)));
@@ -288,14 +300,15 @@ module _ (u : CallerView) where
       let grown = grows_by s.link t.link [] looks.adds in
       (grown, record {
         known = known_by s.link t.link [] so_far.known looks.adds looks.law;
-        open_reads = subst (λ (reads : List OpenRead). AreOpen t.link reads) (sym waits) (same_calls s.link t.link s.waiting (tickets_of_look s.link t.link so_far.known looks) so_far.open_reads);
+        places = so_far.places;
+        open_reads = subst (λ (reads : List OpenRead). AreOpen t.link reads so_far.places) (sym waits) (all_open s.link t.link s.waiting so_far.places grown looks.keeps so_far.open_reads);
         answers = λ g. subst (λ (os : List Outcome). AreAnswers R (reading uid gid file) os) (sym replies) (so_far.answers (grows_both s.link t.link u grown g));
       })
 
   steps_in : (uid gid : ℕ) (file : List ℕ) (v : CallerView) (states : List (ReadingOver CallerView)) (last : ReadingOver CallerView) → LeadsOver shared_relations uid gid file (starts_at v) states last → IsKnown v
       → Grows v last.link × ReadSoFar uid gid file last
   steps_in uid gid file v [] last same known =
-      subst (λ (s : ReadingOver CallerView). Grows v s.link × ReadSoFar uid gid file s) (sym same) (grows_not v v refl, record { known = known; open_reads = tt; answers = λ g. tt })
+      subst (λ (s : ReadingOver CallerView). Grows v s.link × ReadSoFar uid gid file s) (sym same) (grows_not v v refl, record { known = known; places = []; open_reads = tt; answers = λ g. tt })
   steps_in uid gid file v (s ∷ states) last (step, leads) known =
       let before = steps_in uid gid file v states s leads known in
       let one = step_in uid gid file s last step before.1 in
