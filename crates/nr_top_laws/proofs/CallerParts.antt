@@ -1,19 +1,12 @@
 -- The ends of parts of a command over a shared requester: by the calls of the caller's own that were answered, each with its cause if a call has no answer.
-use Rattle.std.proofs.Common.{◌≡◌, ◌≢◌, ◌⊎◌, ◌<◌, ◌≤◌, ℕ, arith, Bool, true, false, List, [], ◌∷◌, ◌++◌, length, ltb-true, Option, None, Some, Result, Ok, Err, inl, inr, refl, sym, ap, subst, ◌∙◌}
-use Rattle.std.specs.Prelude.{IfSome, MatchBool, MatchResult, nat_lt}
+use Rattle.std.proofs.Common.{◌≡◌, ◌≢◌, ◌⊎◌, ◌<◌, ◌≤◌, ℕ, arith, Bool, true, false, List, [], ◌∷◌, ◌++◌, length, Option, None, Some, Result, Ok, Err, inl, inr, refl, sym, ap, subst, ◌∙◌}
+use Rattle.std.specs.Prelude.{IfSome, MatchBool, MatchResult}
 use Rattle.std.specs.Io.KnownBytes.{Consumes}
 use Rattle.nr_outside.specs.Faults.{Rises}
-use Rattle.nr_outside.specs.Streams.{SinkAt, SourceAt}
 use Rattle.nr_outside.specs.Whole.{input_max}
-use Rattle.nr_nfs_base.specs.Limits.{link_target_max}
-use Rattle.nr_words.specs.Limits.{mount_path_max}
-use Rattle.nr_words.specs.Lines.{Text}
-use Rattle.nr_words.specs.declared.commands.Action.{Action}
-use Rattle.nr_words.specs.declared.commands.Action.TheVariants as actions
 use Rattle.nr_reduce.specs.declared.call.Call.{Call}
 use Rattle.nr_reduce.specs.declared.call.Form.TheVariants as forms
 use Rattle.nr_reduce.specs.declared.call.Outcome.{Outcome}
-use Rattle.nr_shared.specs.declared.call_end.CallEnd.{CallEnd}
 use Rattle.nr_shared.specs.declared.entry.Entry.TheVariants as entries
 use Rattle.nr_shared.proofs.Asking.{asked_just}
 use Rattle.nr_client.specs.declared.client_end.ClientEnd.{ClientEnd}
@@ -21,24 +14,15 @@ use Rattle.nr_client.specs.declared.client_end.ClientEnd.TheVariants as client
 use Rattle.nr_client.specs.CallerViews.{CallerView, HasCallAt, KeepsOpenAt, KeepsOthersAt, shared_relations}
 use Rattle.nr_client.specs.Following.{EndsWithOver, FollowsOver, MakesCallsOver, Next, UnansweredOver}
 use Rattle.nr_client.specs.Following.Next.{Calls, Returns}
-use Rattle.nr_client.specs.Listing.{list_next}
-use Rattle.nr_client.specs.Paths.{path_names}
 use Rattle.nr_client.specs.Reading.{EndsReadingOver, ForgetsCallsOver, InputFaults, LeadsOver, OpenRead, OutputFaults, ReadStepOver, ReadingOver, ReadsFileOver, reading, starts_at, xids_of}
 use Rattle.nr_client.specs.Reading.ReadStepOver.{AsksAhead, Looks, MakesAlone, TakesOldest}
 use Rattle.nr_client.specs.Reading.EndsReadingOver.{EndsByReplies, NotAnswered, NotSubmitted, OldestForgotten, OutputFails}
-use Rattle.nr_client.specs.Requests.{AsksOver, create_result, getattr_call, getattr_result, mkdir_call, mnt_call, mnt_result, readlink_call, readlink_result, remove_call, remove_result, symlink_call}
 use Rattle.nr_client.specs.Results.{Gives}
-use Rattle.nr_client.specs.Walking.{parent_next, walk_next}
-use Rattle.nr_client.specs.Writing.{EndsWritingOver, writing}
-use Rattle.nr_client.specs.Writing.EndsWritingOver.{FollowsInput, InputFails}
 use Rattle.nr_client.proofs.CallerTickets.{IsKnown}
-use Rattle.nr_commands.specs.Commands.{FindsOver, FindsParentOver, GetsOver, IsSilent, ListsOver, MakesDirectoryOver, MakesSymlinkOver, MountsAndPrintsOver, MountsOver, PutsOver, ReadsLinkOver, ReadsOutOver, RemovesOver, StatsOver, SymlinksOver, WritesInOver}
-use Rattle.nr_commands.specs.Printed.{attributes_text, handle_text, names_text, path_text}
-use Rattle.nr_commands.specs.Running.{text_of_over}
-use Rattle.nr_commands.specs.Sessions.{FailsOver, PartOver, RequestOver, RequestsOver, TextOver, ThenOver}
+use Rattle.nr_commands.specs.Commands.{IsSilent}
+use Rattle.nr_commands.specs.Sessions.{PartOver, RequestOver, RequestsOver, TextOver, ThenOver}
 use Rattle.nr_service_laws.specs.ReplyEnds.{AreAnswers, IsAnsweredBy}
-use Rattle.nr_service_laws.proofs.Judged.{Any, BadParent, IsReadEnd, Judgement, NextIs, RequestIs, ResultIs, answers_more, list_is, parent_is, reading_is, walk_is, writing_is}
-use Rattle.nr_service_laws.proofs.JudgedCommands.{WordsGive}
+use Rattle.nr_service_laws.proofs.Judged.{Any, IsReadEnd, NextIs, RequestIs, ResultIs, answers_more}
 use Rattle.nr_top_laws.specs.NumberedStatuses.{HasCause, answered_calls}
 use Rattle.nr_top_laws.proofs.CallerExchanges.{Grows, answered_so, call_on, cause_on, completed_so, forgotten_cause, gone_cause, grows_both, grows_by, grows_not, grows_up, known_by, known_up, refused_cause, same_call, same_place}
 
@@ -127,16 +111,16 @@ pub record Does {A : Type 0} (H : Type 0) (u : CallerView) (V : A → Type 0) (F
 abbrev pub PartIn : {A : Type 0} → Type 0 → (u : CallerView) → (A → Type 0) → (ClientEnd → Type 0) → PartOver CallerView A → Type 0
 PartIn {A} H u V F part = (v w : CallerView) (result : Result A ClientEnd) → part v w result → IsKnown v → Does H u V F v w result
 
-stays_in : {A : Type 0} (H : Type 0) (u : CallerView) (V : A → Type 0) (F : ClientEnd → Type 0) (v w : CallerView) (result : Result A ClientEnd) → w ≡ v → IsKnown v → GivenIn V F result w → Does H u V F v w result
+pub stays_in : {A : Type 0} (H : Type 0) (u : CallerView) (V : A → Type 0) (F : ClientEnd → Type 0) (v w : CallerView) (result : Result A ClientEnd) → w ≡ v → IsKnown v → GivenIn V F result w → Does H u V F v w result
 stays_in H u V F v w result same known is = record { grows = grows_not v w same; known = subst IsKnown (sym same) known; given = λ h g. is }
 
-text_in : (H : Type 0) (u : CallerView) (F : ClientEnd → Type 0) (text : List ℕ) → PartIn H u Any F (TextOver text)
+pub text_in : (H : Type 0) (u : CallerView) (F : ClientEnd → Type 0) (text : List ℕ) → PartIn H u Any F (TextOver text)
 text_in H u F text v w result (same, is) known = stays_in H u Any F v w result same known (by result is) where
   by : (r : Result (List ℕ) ClientEnd) → MatchResult r (λ t. t ≡ text) (λ end. end ≡ client.Memory) → GivenIn Any F r w
   by (Ok t) one = tt
   by (Err end) one = subst (λ (e : ClientEnd). EndsIn F e w) (sym one) tt
 
-then_in : {A B : Type 0} (H : Type 0) (u : CallerView) (V : A → Type 0) (W : B → Type 0) (F : ClientEnd → Type 0) (first : PartOver CallerView A) (next : A → PartOver CallerView B) → PartIn H u V F first → ((value : A) → PartIn (V value) u W F (next value))
+pub then_in : {A B : Type 0} (H : Type 0) (u : CallerView) (V : A → Type 0) (W : B → Type 0) (F : ClientEnd → Type 0) (first : PartOver CallerView A) (next : A → PartOver CallerView B) → PartIn H u V F first → ((value : A) → PartIn (V value) u W F (next value))
     → PartIn H u W F (ThenOver first next)
 then_in H u V W F first next one goes_on v w result (inl (value, (mid, (is, goes)))) known =
     let d = one v mid (Ok value) is known in
@@ -146,14 +130,14 @@ then_in {A} {B} H u V W F first next one goes_on v w result (inr (end, (is, same
     let d = one v w (Err end) is known in
     record { grows = d.grows; known = d.known; given = λ h g. subst (λ (r : Result B ClientEnd). GivenIn W F r w) (sym same) (d.given h g) }
 
-within_in : (above : Bool) (Above Within Is : Type 0) → (above ≡ true → Above → Is) → (Within → Is) → MatchBool above Above Within → Is
+pub within_in : (above : Bool) (Above Within Is : Type 0) → (above ≡ true → Above → Is) → (Within → Is) → MatchBool above Above Within → Is
 within_in true Above Within Is beyond within is = beyond refl is
 within_in false Above Within Is beyond within is = within is
 
 -- ---- Requests
 
 module _ (u : CallerView) where
-  abbrev R : Call → Outcome → Type 0
+  abbrev pub R : Call → Outcome → Type 0
   R call outcome = IsAnsweredBy (answered_calls u) call outcome
 
   unanswered_in : (F : ClientEnd → Type 0) (call : Call) (v w : CallerView) (end : ClientEnd) → UnansweredOver shared_relations call v w end → EndsIn F end w
@@ -165,11 +149,12 @@ module _ (u : CallerView) where
   unanswered_moves call v w end (inr (is, same)) known = (grows_not v w same, subst IsKnown (sym same) known)
 
   answer_moves : (call : Call) (outcome : Outcome) (v w : CallerView) → shared_relations.answers v w call outcome → IsKnown v → Grows v w × IsKnown w
-  answer_moves call outcome v w a known =
-      (grows_by v w ((a.writes_before ++ entries.Submit call forms.Auto a.xid ∷ a.writes_after) ++ entries.Done a.xid outcome a.at ∷ []) a.adds,
-      known_by v w ((a.writes_before ++ entries.Submit call forms.Auto a.xid ∷ a.writes_after) ++ entries.Done a.xid outcome a.at ∷ []) known a.adds a.law)
+  answer_moves call outcome v w a known = (
+    grows_by v w ((a.writes_before ++ entries.Submit call forms.Auto a.xid ∷ a.writes_after) ++ entries.Done a.xid outcome a.at ∷ []) a.adds,
+    known_by v w ((a.writes_before ++ entries.Submit call forms.Auto a.xid ∷ a.writes_after) ++ entries.Done a.xid outcome a.at ∷ []) known a.adds a.law,
+  )
 
-  asks_in : {A : Type 0} (V : A → Type 0) (F : ClientEnd → Type 0) (reads : Outcome → Result A ClientEnd) (call : Call) (H : Type 0) → (H → (o : Outcome) → R call o → ResultIs V F (reads o)) → PartIn H u V F (RequestOver shared_relations reads call)
+  pub asks_in : {A : Type 0} (V : A → Type 0) (F : ClientEnd → Type 0) (reads : Outcome → Result A ClientEnd) (call : Call) (H : Type 0) → (H → (o : Outcome) → R call o → ResultIs V F (reads o)) → PartIn H u V F (RequestOver shared_relations reads call)
   asks_in V F reads call H judge v w result (inl (outcome, (answers, gives)), counts) known =
       let m = answer_moves call outcome v w answers known in
       record { grows = m.0; known = m.1; given = λ h g. gives_in V F result (reads outcome) w gives (judge h outcome (answered_so v w u call outcome answers g)) }
@@ -177,7 +162,7 @@ module _ (u : CallerView) where
       record { grows = grows_up v w call cause up; known = known_up v w call cause known up; given = λ h g. subst (λ (r : Result A ClientEnd). GivenIn V F r w) (sym is) (gone_cause v w call cause up) }
   asks_in {A} V F reads call H judge v w result (inr (inr (is, same)), counts) known = stays_in H u V F v w result same known (subst (λ (r : Result A ClientEnd). GivenIn V F r w) (sym is) tt)
 
-  made_moves : {A : Type 0} (request : List Outcome → Next A) (outcomes : List Outcome) (v w : CallerView) → MakesCallsOver shared_relations request outcomes v w → IsKnown v → Grows v w × IsKnown w
+  pub made_moves : {A : Type 0} (request : List Outcome → Next A) (outcomes : List Outcome) (v w : CallerView) → MakesCallsOver shared_relations request outcomes v w → IsKnown v → Grows v w × IsKnown w
   made_moves request [] v w same known = (grows_not v w same, subst IsKnown (sym same) known)
   made_moves request (outcome ∷ outcomes) v w (call, mid, (is, (answers, rest))) known =
       let m = answer_moves call outcome v mid answers known in
@@ -191,7 +176,7 @@ module _ (u : CallerView) where
       let n = made_moves (λ later. request (outcome ∷ later)) outcomes mid w rest m.1 in
       ((call, (is, answered_so v mid u call outcome answers (grows_both mid w u n.0 g))), answers_of (λ later. request (outcome ∷ later)) outcomes mid w rest m.1 g)
 
-  follows_in : {A : Type 0} (V : A → Type 0) (F : ClientEnd → Type 0) (request : List Outcome → Next A) (H : Type 0) → (H → RequestIs R V F request) → (v w : CallerView) (given : Result A ClientEnd) → FollowsOver shared_relations request v w given → IsKnown v
+  pub follows_in : {A : Type 0} (V : A → Type 0) (F : ClientEnd → Type 0) (request : List Outcome → Next A) (H : Type 0) → (H → RequestIs R V F request) → (v w : CallerView) (given : Result A ClientEnd) → FollowsOver shared_relations request v w given → IsKnown v
       → Does H u V F v w given
   follows_in {A} V F request H judge v w given f known =
       let m = made_moves request f.outcomes v f.between f.made known in
@@ -207,7 +192,7 @@ module _ (u : CallerView) where
           let m = unanswered_moves call f.between w end gone there in
           record { grows = grows_both v f.between w grown m.0; known = m.1; given = λ h g. subst (λ (r : Result A ClientEnd). GivenIn V F r w) (sym same) (unanswered_in F call f.between w end gone) }
 
-  requests_in : {A : Type 0} (V : A → Type 0) (F : ClientEnd → Type 0) (request : List Outcome → Next A) (H : Type 0) → (H → RequestIs R V F request) → PartIn H u V F (RequestsOver shared_relations request)
+  pub requests_in : {A : Type 0} (V : A → Type 0) (F : ClientEnd → Type 0) (request : List Outcome → Next A) (H : Type 0) → (H → RequestIs R V F request) → PartIn H u V F (RequestsOver shared_relations request)
   requests_in V F request H judge v w result (follows, counts) known = follows_in V F request H judge v w result follows known
 
   -- ---- A file that is read
@@ -263,47 +248,55 @@ module _ (u : CallerView) where
 
   step_in : (uid gid : ℕ) (file : List ℕ) (s t : ReadingOver CallerView) → ReadStepOver shared_relations uid gid file s t → ReadSoFar uid gid file s → Grows s.link t.link × ReadSoFar uid gid file t
   step_in uid gid file s t (MakesAlone call outcome alone answers replies waits) so_far =
-      let m = answer_moves call outcome s.link t.link answers so_far.known in
-      (m.0, record {
-        known = m.1;
-        places = so_far.places;
-        open_reads = subst (λ (reads : List OpenRead). AreOpen t.link reads so_far.places) (sym waits) (all_open s.link t.link s.waiting so_far.places m.0 answers.keeps so_far.open_reads);
-        answers = λ g. subst (λ (os : List Outcome). AreAnswers R (reading uid gid file) os) (sym replies)
-            (answers_more R (reading uid gid file) s.outcomes call outcome (so_far.answers (grows_both s.link t.link u m.0 g)) alone.0 (answered_so s.link t.link u call outcome answers g));
-      })
+      let m = answer_moves call outcome s.link t.link answers so_far.known in (
+        m.0,
+        record {
+          known = m.1;
+          places = so_far.places;
+          open_reads = subst (λ (reads : List OpenRead). AreOpen t.link reads so_far.places) (sym waits) (all_open s.link t.link s.waiting so_far.places m.0 answers.keeps so_far.open_reads);
+          answers = λ g. subst (λ (os : List Outcome). AreAnswers R (reading uid gid file) os) (sym replies)
+              (answers_more R (reading uid gid file) s.outcomes call outcome (so_far.answers (grows_both s.link t.link u m.0 g)) alone.0 (answered_so s.link t.link u call outcome answers g));
+        },
+      )
   step_in uid gid file s t (AsksAhead read ahead submits replies waits) so_far =
       let grown = grows_by s.link t.link (submits.writes_before ++ entries.Submit read.call forms.Auto read.xid ∷ submits.writes_after) submits.adds in
       let none = new_apart s.link submits.at s.waiting so_far.places so_far.known submits.new so_far.open_reads in
-      let has : HasCallAt t.link read.xid submits.at read.call = record { stands = (entries.Submit read.call forms.Auto read.xid, submits.stands, asked_just read.xid read.call forms.Auto); open_place = submits.opened } in
-      (grown, record {
-        known = known_by s.link t.link (submits.writes_before ++ entries.Submit read.call forms.Auto read.xid ∷ submits.writes_after) so_far.known submits.adds submits.law;
-        places = so_far.places ++ submits.at ∷ [];
-        open_reads = subst (λ (reads : List OpenRead). AreOpen t.link reads (so_far.places ++ submits.at ∷ [])) (sym waits)
-            (open_last t.link read s.waiting submits.at so_far.places (all_open s.link t.link s.waiting so_far.places grown submits.keeps so_far.open_reads) none has);
-        answers = λ g. subst (λ (os : List Outcome). AreAnswers R (reading uid gid file) os) (sym replies) (so_far.answers (grows_both s.link t.link u grown g));
-      })
+      let has : HasCallAt t.link read.xid submits.at read.call = record { stands = (entries.Submit read.call forms.Auto read.xid, submits.stands, asked_just read.xid read.call forms.Auto); open_place = submits.opened } in (
+        grown,
+        record {
+          known = known_by s.link t.link (submits.writes_before ++ entries.Submit read.call forms.Auto read.xid ∷ submits.writes_after) so_far.known submits.adds submits.law;
+          places = so_far.places ++ submits.at ∷ [];
+          open_reads = subst (λ (reads : List OpenRead). AreOpen t.link reads (so_far.places ++ submits.at ∷ [])) (sym waits)
+              (open_last t.link read s.waiting submits.at so_far.places (all_open s.link t.link s.waiting so_far.places grown submits.keeps so_far.open_reads) none has);
+          answers = λ g. subst (λ (os : List Outcome). AreAnswers R (reading uid gid file) os) (sym replies) (so_far.answers (grows_both s.link t.link u grown g));
+        },
+      )
   step_in uid gid file s t (TakesOldest read outcome full is completes replies waits) so_far =
       let es = completes.writes ++ entries.Done read.xid outcome completes.at ∷ [] in
       let grown = grows_by s.link t.link es completes.adds in
       let (k, (js, (has, (apart, are)))) = first_open s.link read t.waiting so_far.places (subst (λ (reads : List OpenRead). AreOpen s.link reads so_far.places) waits so_far.open_reads) in
       let here : k ≡ completes.at = same_place s.link read.xid k completes.at read.call completes.call so_far.known.law has completes.had in
-      let same : completes.call ≡ read.call = sym (same_call s.link read.xid k completes.at read.call completes.call so_far.known.law has completes.had) in
-      (grown, record {
-        known = known_by s.link t.link es so_far.known completes.adds completes.law;
-        places = js;
-        open_reads = others_open s.link t.link completes.at t.waiting js grown completes.keeps (subst (λ (n : ℕ). NoneOf n js) here apart) are;
-        answers = λ g. subst (λ (os : List Outcome). AreAnswers R (reading uid gid file) os) (sym replies)
-            (answers_more R (reading uid gid file) s.outcomes read.call outcome (so_far.answers (grows_both s.link t.link u grown g)) is
-            (subst (λ (c : Call). R c outcome) same (completed_so s.link t.link u read.xid outcome completes g)));
-      })
+      let same : completes.call ≡ read.call = sym (same_call s.link read.xid k completes.at read.call completes.call so_far.known.law has completes.had) in (
+        grown,
+        record {
+          known = known_by s.link t.link es so_far.known completes.adds completes.law;
+          places = js;
+          open_reads = others_open s.link t.link completes.at t.waiting js grown completes.keeps (subst (λ (n : ℕ). NoneOf n js) here apart) are;
+          answers = λ g. subst (λ (os : List Outcome). AreAnswers R (reading uid gid file) os) (sym replies)
+              (answers_more R (reading uid gid file) s.outcomes read.call outcome (so_far.answers (grows_both s.link t.link u grown g)) is
+              (subst (λ (c : Call). R c outcome) same (completed_so s.link t.link u read.xid outcome completes g)));
+        },
+      )
   step_in uid gid file s t (Looks looks replies waits) so_far =
-      let grown = grows_by s.link t.link [] looks.adds in
-      (grown, record {
-        known = known_by s.link t.link [] so_far.known looks.adds looks.law;
-        places = so_far.places;
-        open_reads = subst (λ (reads : List OpenRead). AreOpen t.link reads so_far.places) (sym waits) (all_open s.link t.link s.waiting so_far.places grown looks.keeps so_far.open_reads);
-        answers = λ g. subst (λ (os : List Outcome). AreAnswers R (reading uid gid file) os) (sym replies) (so_far.answers (grows_both s.link t.link u grown g));
-      })
+      let grown = grows_by s.link t.link [] looks.adds in (
+        grown,
+        record {
+          known = known_by s.link t.link [] so_far.known looks.adds looks.law;
+          places = so_far.places;
+          open_reads = subst (λ (reads : List OpenRead). AreOpen t.link reads so_far.places) (sym waits) (all_open s.link t.link s.waiting so_far.places grown looks.keeps so_far.open_reads);
+          answers = λ g. subst (λ (os : List Outcome). AreAnswers R (reading uid gid file) os) (sym replies) (so_far.answers (grows_both s.link t.link u grown g));
+        },
+      )
 
   steps_in : (uid gid : ℕ) (file : List ℕ) (v : CallerView) (states : List (ReadingOver CallerView)) (last : ReadingOver CallerView) → LeadsOver shared_relations uid gid file (starts_at v) states last → IsKnown v
       → Grows v last.link × ReadSoFar uid gid file last
@@ -349,7 +342,7 @@ module _ (u : CallerView) where
       let n = dropped_moves xids mid w rest there in
       (grows_both v mid w (grows_by v mid (entries.Forget xid forgets.at ∷ []) forgets.adds) n.0, n.1)
 
-  reads_in : (F : ClientEnd → Type 0) (uid gid : ℕ) (file : List ℕ) (v w : CallerView) (taken taken' : Option (List ℕ)) (given : Result (Unit {0}) ClientEnd) → ReadsFileOver shared_relations uid gid file v w taken taken' given
+  pub reads_in : (F : ClientEnd → Type 0) (uid gid : ℕ) (file : List ℕ) (v w : CallerView) (taken taken' : Option (List ℕ)) (given : Result (Unit {0}) ClientEnd) → ReadsFileOver shared_relations uid gid file v w taken taken' given
       → (given ≡ Err client.OutputFault → F client.OutputFault) → (H : Type 0) → (H → RequestIs R Any F (reading uid gid file)) → IsKnown v → Does H u Any F v w given
   reads_in F uid gid file v w taken taken' given f fault H judge known =
       let so_far = steps_in uid gid file v f.between f.last f.made known in
@@ -369,135 +362,16 @@ module _ (u : CallerView) where
   silent_in F w (Err end) (Ok text) silent is = absurd silent
   silent_in F w (Err end) (Err why) silent is = subst (λ (e : ClientEnd). EndsIn F e w) (sym silent) is
 
-  does_silent : (H : Type 0) (F : ClientEnd → Type 0) (v w : CallerView) (done : Result (Unit {0}) ClientEnd) (text : Result (List ℕ) ClientEnd) → IsSilent done text → Does H u Any F v w done → Does H u Any F v w text
+  pub does_silent : (H : Type 0) (F : ClientEnd → Type 0) (v w : CallerView) (done : Result (Unit {0}) ClientEnd) (text : Result (List ℕ) ClientEnd) → IsSilent done text → Does H u Any F v w done → Does H u Any F v w text
   does_silent H F v w done text silent d = record { grows = d.grows; known = d.known; given = λ h g. silent_in F w done text silent (d.given h g) }
 
-  output_rose : (done : Result (Unit {0}) ClientEnd) (before after : ℕ) → OutputFaults done before after → done ≡ Err client.OutputFault → Rises before after
+  pub output_rose : (done : Result (Unit {0}) ClientEnd) (before after : ℕ) → OutputFaults done before after → done ≡ Err client.OutputFault → Rises before after
   output_rose done before after counts is = subst (λ (r : Result (Unit {0}) ClientEnd). OutputFaults r before after) is counts
 
-  input_rose : (done : Result (Unit {0}) ClientEnd) (before after : ℕ) → InputFaults done before after → done ≡ Err client.InputFault → Rises before after
+  pub input_rose : (done : Result (Unit {0}) ClientEnd) (before after : ℕ) → InputFaults done before after → done ≡ Err client.InputFault → Rises before after
   input_rose done before after counts is = subst (λ (r : Result (Unit {0}) ClientEnd). InputFaults r before after) is counts
 
-  whole_input : (handed rest : List ℕ) (left left' : Option (List ℕ)) → Consumes left left' handed → IfSome left' (λ known. rest ≡ known) → input_max < length (handed ++ rest) → IfSome left (λ known. input_max < length known)
+  pub whole_input : (handed rest : List ℕ) (left left' : Option (List ℕ)) → Consumes left left' handed → IfSome left' (λ known. rest ≡ known) → input_max < length (handed ++ rest) → IfSome left (λ known. input_max < length known)
   whole_input handed rest None left' takes is long = tt
   whole_input handed rest (Some left) None takes is long = absurd takes
   whole_input handed rest (Some left) (Some known) takes is long = subst (λ (bytes : List ℕ). input_max < length bytes) (ap (λ (r : List ℕ). handed ++ r) is ∙ sym takes) long
-
--- ---- Commands
-
-module _ (u : CallerView) (V : List ℕ → Type 0) (F : ClientEnd → Type 0) (uid gid : ℕ) (judge : Judgement (R u) V F uid gid) where
-  abbrev LongExport : List ℕ → Type 0
-  LongExport export = mount_path_max < length export → F (client.Budget mount_path_max)
-
-  abbrev BadPath : List ℕ → Type 0
-  BadPath path = (at : ℕ) → path_names path ≡ Err (client.BadPath at) → F (client.BadPath at)
-
-  abbrev Place : List ℕ × List ℕ → Type 0
-  Place p = V p.0
-
-  fails_in : {A : Type 0} (W : A → Type 0) (H : Type 0) (count : ℕ) → F (client.Budget count) → PartIn {A = A} H u W F (FailsOver (client.Budget count))
-  fails_in {A} W H count over v w result (same, is) known = stays_in H u W F v w result same known (subst (λ (r : Result A ClientEnd). GivenIn W F r w) (sym is) over)
-
-  mounts_in : (H : Type 0) (export : List ℕ) → LongExport export → PartIn H u V F (MountsOver shared_relations uid gid export)
-  mounts_in H export over v w result is known =
-      within_in (nat_lt mount_path_max (length export)) (FailsOver (client.Budget mount_path_max) v w result) (RequestOver shared_relations mnt_result (mnt_call uid gid export) v w result) (Does H u V F v w result)
-      (λ above fails. fails_in V H mount_path_max (over (ltb-true mount_path_max (length export) above)) v w result fails known)
-      (λ made. asks_in u V F mnt_result (mnt_call uid gid export) H (λ h. judge.mounted export) v w result made known) is
-
-  symlinks_in : (H : Type 0) (dir name target : List ℕ) → (link_target_max < length target → F (client.Budget link_target_max)) → PartIn H u Any F (SymlinksOver shared_relations uid gid dir name target)
-  symlinks_in H dir name target over v w result is known =
-      within_in (nat_lt link_target_max (length target)) (FailsOver (client.Budget link_target_max) v w result) (RequestOver shared_relations create_result (symlink_call uid gid dir name target) v w result) (Does H u Any F v w result)
-      (λ above fails. fails_in Any H link_target_max (over (ltb-true link_target_max (length target) above)) v w result fails known)
-      (λ made. asks_in u Any F create_result (symlink_call uid gid dir name target) H (λ h. judge.link_made dir name target) v w result made known) is
-
-  finds_in : (H : Type 0) (export path : List ℕ) → LongExport export → BadPath path → PartIn H u V F (FindsOver shared_relations uid gid export path)
-  finds_in H export path over bad =
-      then_in H u V V F (MountsOver shared_relations uid gid export) (λ root. RequestsOver shared_relations (walk_next uid gid root path)) (mounts_in H export over)
-      (λ root. requests_in u V F (walk_next uid gid root path) (V root) (λ holds. walk_is (R u) V F uid gid judge root path holds bad))
-
-  finds_parent_in : (H : Type 0) (export path : List ℕ) → LongExport export → BadParent F path → PartIn H u Place F (FindsParentOver shared_relations uid gid export path)
-  finds_parent_in H export path over bad =
-      then_in H u V Place F (MountsOver shared_relations uid gid export) (λ root. RequestsOver shared_relations (parent_next uid gid root path)) (mounts_in H export over)
-      (λ root. requests_in u Place F (parent_next uid gid root path) (V root) (λ holds. parent_is (R u) V F uid gid judge root path holds bad))
-
-  -- a request of a file or a directory that was found, and its text
-  asked_in : {A B : Type 0} (value : B) (W : B → Type 0) (reads : Outcome → Result A ClientEnd) (call : Call) (text : A → List ℕ) → ((o : Outcome) → R u call o → ResultIs Any F (reads o))
-      → PartIn (W value) u Any F (ThenOver (RequestOver shared_relations reads call) (λ results. TextOver (text results)))
-  asked_in value W reads call text judged =
-      then_in (W value) u Any Any F (RequestOver shared_relations reads call) (λ results. TextOver (text results)) (asks_in u Any F reads call (W value) (λ h. judged)) (λ results. text_in (Any results) u F (text results))
-
-  mount_in : (export : List ℕ) → LongExport export → PartIn (Unit {0}) u Any F (MountsAndPrintsOver shared_relations uid gid export)
-  mount_in export over = then_in (Unit {0}) u V Any F (MountsOver shared_relations uid gid export) (λ root. TextOver (handle_text root)) (mounts_in (Unit {0}) export over) (λ root. text_in (V root) u F (handle_text root))
-
-  lists_in : (export path : List ℕ) → LongExport export → BadPath path → PartIn (Unit {0}) u Any F (ListsOver shared_relations uid gid export path)
-  lists_in export path over bad =
-      then_in (Unit {0}) u V Any F (FindsOver shared_relations uid gid export path) (λ dir. ThenOver (RequestsOver shared_relations (list_next uid gid dir)) (λ names. TextOver (names_text names))) (finds_in (Unit {0}) export path over bad)
-      (λ dir. then_in (V dir) u Any Any F (RequestsOver shared_relations (list_next uid gid dir)) (λ names. TextOver (names_text names))
-      (requests_in u Any F (list_next uid gid dir) (V dir) (λ holds. list_is (R u) V F uid gid judge dir)) (λ names. text_in (Any names) u F (names_text names)))
-
-  stats_in : (export path : List ℕ) → LongExport export → BadPath path → PartIn (Unit {0}) u Any F (StatsOver shared_relations uid gid export path)
-  stats_in export path over bad =
-      then_in (Unit {0}) u V Any F (FindsOver shared_relations uid gid export path) (λ file. ThenOver (RequestOver shared_relations getattr_result (getattr_call uid gid file)) (λ attributes. TextOver (attributes_text attributes)))
-      (finds_in (Unit {0}) export path over bad) (λ file. asked_in file V getattr_result (getattr_call uid gid file) (λ attributes. attributes_text attributes) (judge.attributes file))
-
-  reads_link_in : (export path : List ℕ) → LongExport export → BadPath path → PartIn (Unit {0}) u Any F (ReadsLinkOver shared_relations uid gid export path)
-  reads_link_in export path over bad =
-      then_in (Unit {0}) u V Any F (FindsOver shared_relations uid gid export path) (λ file. ThenOver (RequestOver shared_relations readlink_result (readlink_call uid gid file)) (λ link. TextOver (path_text link.path)))
-      (finds_in (Unit {0}) export path over bad) (λ file. asked_in file V readlink_result (readlink_call uid gid file) (λ link. path_text link.path) (judge.link_read file))
-
-  makes_directory_in : (export path : List ℕ) → LongExport export → BadParent F path → PartIn (Unit {0}) u Any F (MakesDirectoryOver shared_relations uid gid export path)
-  makes_directory_in export path over bad =
-      then_in (Unit {0}) u Place Any F (FindsParentOver shared_relations uid gid export path) (λ place. ThenOver (RequestOver shared_relations create_result (mkdir_call uid gid place.0 place.1)) (λ made. TextOver []))
-      (finds_parent_in (Unit {0}) export path over bad) (λ place. asked_in place Place create_result (mkdir_call uid gid place.0 place.1) (λ made. []) (judge.directory_made place.0 place.1))
-
-  removes_in : (export path : List ℕ) → LongExport export → BadParent F path → PartIn (Unit {0}) u Any F (RemovesOver shared_relations uid gid export path)
-  removes_in export path over bad =
-      then_in (Unit {0}) u Place Any F (FindsParentOver shared_relations uid gid export path) (λ place. ThenOver (RequestOver shared_relations remove_result (remove_call uid gid place.0 place.1)) (λ removed. TextOver []))
-      (finds_parent_in (Unit {0}) export path over bad) (λ place. asked_in place Place remove_result (remove_call uid gid place.0 place.1) (λ removed. []) (judge.removed place.0 place.1))
-
-  makes_symlink_in : (export path target : List ℕ) → LongExport export → BadParent F path → (link_target_max < length target → F (client.Budget link_target_max)) → PartIn (Unit {0}) u Any F (MakesSymlinkOver shared_relations uid gid export path target)
-  makes_symlink_in export path target over bad long =
-      then_in (Unit {0}) u Place Any F (FindsParentOver shared_relations uid gid export path) (λ place. ThenOver (SymlinksOver shared_relations uid gid place.0 place.1 target) (λ made. TextOver [])) (finds_parent_in (Unit {0}) export path over bad)
-      (λ place. then_in (Place place) u Any Any F (SymlinksOver shared_relations uid gid place.0 place.1 target) (λ made. TextOver []) (symlinks_in (Place place) place.0 place.1 target long) (λ made. text_in (Any made) u F []))
-
-  gets_in : (export path : List ℕ) (out out' : SinkAt) → LongExport export → BadPath path → (Rises out.faults out'.faults → F client.OutputFault) → PartIn (Unit {0}) u Any F (GetsOver shared_relations uid gid export path out out')
-  gets_in export path out out' over bad fault v w text (inl (file, (mid, (finds, (done, ((reads, counts), silent)))))) known =
-      let d = finds_in (Unit {0}) export path over bad v mid (Ok file) finds known in
-      let e = does_silent u (V file) F mid w done text silent
-      (reads_in u F uid gid file mid w out.taken out'.taken done reads (λ is. fault (output_rose u done out.faults out'.faults counts.0 is)) (V file) (λ holds. reading_is (R u) V F uid gid judge file holds) d.known) in
-      record { grows = grows_both v mid w d.grows e.grows; known = e.known; given = λ h g. e.given (d.given h (grows_both mid w u e.grows g)) g }
-  gets_in export path out out' over bad fault v w text (inr (end, (finds, (same, kept)))) known =
-      let d = finds_in (Unit {0}) export path over bad v w (Err end) finds known in
-      record { grows = d.grows; known = d.known; given = λ h g. subst (λ (r : Result (List ℕ) ClientEnd). GivenIn Any F r w) (sym same) (d.given h g) }
-
-  writes_in : (H : Type 0) (dir name handed rest : List ℕ) (v w : CallerView) (result : Result (Unit {0}) ClientEnd) → EndsWritingOver shared_relations uid gid dir name handed rest v w result
-      → (input_max < length (handed ++ rest) → F (client.Budget input_max)) → (result ≡ Err client.InputFault → F client.InputFault) → IsKnown v → Does H u Any F v w result
-  writes_in H dir name handed rest v w result (FollowsInput follows count ahead) over fault known =
-      follows_in u Any F (writing uid gid dir name (handed ++ rest)) H (λ h. writing_is (R u) V F uid gid judge dir name (handed ++ rest) over) v w result follows known
-  writes_in H dir name handed rest v w result (InputFails outcomes is made ahead) over fault known =
-      let m = made_moves u (writing uid gid dir name (handed ++ rest)) outcomes v w made known in
-      record { grows = m.0; known = m.1; given = λ h g. subst (λ (r : Result (Unit {0}) ClientEnd). GivenIn Any F r w) (sym is) (fault is) }
-
-  puts_in : (export path : List ℕ) (input input' : SourceAt) → LongExport export → BadParent F path → (IfSome input.left (λ known. input_max < length known) → F (client.Budget input_max)) → (Rises input.faults input'.faults → F client.InputFault)
-      → PartIn (Unit {0}) u Any F (PutsOver shared_relations uid gid export path input input')
-  puts_in export path input input' over bad long fault v w text (inl (place, (mid, (finds, (done, ((writes, counts), silent)))))) known =
-      let d = finds_parent_in (Unit {0}) export path over bad v mid (Ok place) finds known in
-      let e = does_silent u (Place place) F mid w done text silent
-      (writes_in (Place place) place.0 place.1 writes.handed writes.rest mid w done writes.calls (λ more. long (whole_input u writes.handed writes.rest input.left input'.left writes.hands_out.from_left writes.is_rest more))
-      (λ is. fault (input_rose u done input.faults input'.faults counts.0 is)) d.known) in
-      record { grows = grows_both v mid w d.grows e.grows; known = e.known; given = λ h g. e.given (d.given h (grows_both mid w u e.grows g)) g }
-  puts_in export path input input' over bad long fault v w text (inr (end, (finds, (same, kept)))) known =
-      let d = finds_parent_in (Unit {0}) export path over bad v w (Err end) finds known in
-      record { grows = d.grows; known = d.known; given = λ h g. subst (λ (r : Result (List ℕ) ClientEnd). GivenIn Any F r w) (sym same) (d.given h g) }
-
-  pub command_in : (export : List ℕ) (action : Action Text) (input input' : SourceAt) (out out' : SinkAt) → WordsGive F export action input → (Rises input.faults input'.faults → F client.InputFault) → (Rises out.faults out'.faults → F client.OutputFault)
-      → PartIn (Unit {0}) u Any F (text_of_over shared_relations uid gid export action input input' out out')
-  command_in export actions.Mount input input' out out' give input_fault output_fault v w text is known = mount_in export give.export_long v w text is.0 known
-  command_in export (actions.List path) input input' out out' give input_fault output_fault v w text is known = lists_in export path give.export_long give.path_bad v w text is.0 known
-  command_in export (actions.Stat path) input input' out out' give input_fault output_fault v w text is known = stats_in export path give.export_long give.path_bad v w text is.0 known
-  command_in export (actions.ReadLink path) input input' out out' give input_fault output_fault v w text is known = reads_link_in export path give.export_long give.path_bad v w text is.0 known
-  command_in export (actions.MakeDirectory path) input input' out out' give input_fault output_fault v w text is known = makes_directory_in export path give.export_long give.path_bad v w text is.0 known
-  command_in export (actions.Remove path) input input' out out' give input_fault output_fault v w text is known = removes_in export path give.export_long give.path_bad v w text is.0 known
-  command_in export (actions.Link path target) input input' out out' give input_fault output_fault v w text is known = makes_symlink_in export path target give.export_long give.path_bad (give.target_long path target refl) v w text is.0 known
-  command_in export (actions.Put path) input input' out out' give input_fault output_fault v w text is known = puts_in export path input input' give.export_long give.path_bad (give.input_long path refl) input_fault v w text is.0 known
-  command_in export (actions.Get path) input input' out out' give input_fault output_fault v w text is known = gets_in export path out out' give.export_long give.path_bad output_fault v w text is.0 known

@@ -5,6 +5,7 @@ pub mod StatusCauses
 pub mod Logs
 pub mod CallerExchanges
 pub mod CallerParts
+pub mod CallerCommands
 pub mod FirstHistories
 pub mod KeptEnds
 pub mod NumberedStatuses

@@ -37,7 +37,8 @@ use Rattle.nr_top.specs.Statuses as statuses
 use Rattle.nr_top_laws.specs.NumberedStatuses.{HasCause, NumberedLinesAreRead, NumberedStatusSays, NumberedStatusesHaveCauses, answered_calls, last_view}
 use Rattle.nr_top_laws.specs.NumberedStatuses.NumberedStatusSays.{AtLimit, BadPath, DialFails, Fault, LostAgain, NfsFailed, NoMemory, OverBudget, Refused, ReplyBad, SideEnded, TransportError}
 use Rattle.nr_top_laws.proofs.CallerExchanges.{grows_not}
-use Rattle.nr_top_laws.proofs.CallerParts.{EndsIn, command_in}
+use Rattle.nr_top_laws.proofs.CallerCommands.{command_in}
+use Rattle.nr_top_laws.proofs.CallerParts.{EndsIn}
 use Rattle.nr_top_laws.proofs.FirstHistories.{first_tries, known_first}
 use Rattle.nr_top_laws.proofs.KeptEnds.{dial_fault_stays}
 
