@@ -1,5 +1,5 @@
 -- What the calls of a shared requester's caller make of its view: it grows, and its own entries tell which calls were answered.
-use Rattle.std.proofs.Common.{◌≡◌, ◌⊎◌, ⊎_elim, ℕ, zero, suc, ◌<◌, ◌==◌, arith, Bool, true, false, if◌then◌else◌, List, [], ◌∷◌, ◌++◌, length, length-append, append-nil, Option, None, Some, Result, Ok, Err, refl, sym, ap, subst, ◌∙◌, inl, inr}
+use Rattle.std.proofs.Common.{◌≡◌, ⊎_elim, ℕ, zero, suc, ◌==◌, arith, Bool, true, false, if◌then◌else◌, List, [], ◌∷◌, ◌++◌, length, length-append, append-nil, Option, None, Some, refl, sym, ap, subst, ◌∙◌, inl, inr}
 use Rattle.std.proofs.lemmas.Bool.{cases_Bool}
 use mathlib.Core.Option.{some, none, some-injective, some-ne-none}
 use lib.ListN.{get_elem?}
@@ -20,10 +20,9 @@ use Rattle.nr_shared.specs.Histories.{IsCallAt, submitted_call, tries_of}
 use Rattle.nr_shared.proofs.Adding.{at_one, begins_then}
 use Rattle.nr_shared.proofs.Asking.{some_same}
 use Rattle.nr_shared.proofs.Lists.{at_below, in_either, in_more}
-use Rattle.nr_client.specs.CallerViews.{AddsTo, AnswersBy, CallerView, CompletesBy, ForgetsBy, ForgetsCallBy, ForgottenBy, GivesUpBy, HasCallAt, IsOpenAt, RefusesBy}
+use Rattle.nr_client.specs.CallerViews.{AddsTo, AnswersBy, CallerView, CompletesBy, ForgetsBy, GivesUpBy, HasCallAt, IsOpenAt, RefusesBy}
 use Rattle.nr_client.proofs.CallerTickets.{IsKnown}
 use Rattle.nr_service_laws.specs.Exchanges.{Exchange}
-use Rattle.nr_service_laws.specs.Exchanges.Exchange.{Answered}
 use Rattle.nr_service_laws.specs.ReplyEnds.{IsAnsweredBy}
 use Rattle.nr_top_laws.specs.NumberedStatuses.{HasCause, answered_calls, exchanges_at, with_call, with_exchange}
 

@@ -1,6 +1,6 @@
 -- What the caller of a new shared requester knows: the history has the initial state alone.
-use Rattle.std.proofs.Common.{◌≡◌, ℕ, zero, suc, arith, List, [], ◌∷◌, ◌++◌, append-nil, Option, None, Some, refl, sym, ap, subst, ◌∙◌}
-use mathlib.Core.Option.{some, some-injective, some-ne-none}
+use Rattle.std.proofs.Common.{◌≡◌, ℕ, zero, suc, List, [], ◌∷◌, ◌++◌, append-nil, None, Some, refl, sym, ap, subst, ◌∙◌}
+use mathlib.Core.Option.{some-injective, some-ne-none}
 use lib.ListN.{get_elem?}
 use Rattle.nr_reduce.specs.declared.call.Call.{Call}
 use Rattle.nr_reduce.specs.declared.mark.LinkParameters.{LinkParameters}
@@ -11,7 +11,7 @@ use Rattle.nr_shared.specs.declared.entry.Entry.TheVariants as entries
 use Rattle.nr_shared.specs.declared.entry.InitialState.{InitialState}
 use Rattle.nr_shared.specs.Callers.{KeepsLaw}
 use Rattle.nr_shared.specs.Histories.{IsCallAt, submitted_call, tries_of}
-use Rattle.nr_shared.specs.LinkRuns.{AllLinks, FitsHistory, FitsInitialState, first_link, links_of}
+use Rattle.nr_shared.specs.LinkRuns.{AllLinks, FitsHistory, links_of}
 use Rattle.nr_shared.specs.LinkStanding.{KeepsLinkLaw}
 use Rattle.nr_shared.specs.Standing.{RejoinsWithin}
 use Rattle.nr_shared.proofs.Calls.{closes_end, none_closes}
