@@ -3,7 +3,6 @@ use Rattle.std.proofs.Common.{◌≡◌, ⊎_elim, ℕ, zero, suc, ◌==◌, ari
 use Rattle.std.proofs.lemmas.Bool.{cases_Bool}
 use mathlib.Core.Option.{some, none, some-injective, some-ne-none}
 use lib.ListN.{get_elem?}
-use Rattle.atomic_table.proofs.Lists.{at_longer}
 use Rattle.nr_turnstile.specs.Rule.{Begins, IsIn}
 use Rattle.nr_reduce.specs.declared.call.Call.{Call}
 use Rattle.nr_reduce.specs.declared.call.Form.{Form}
@@ -94,6 +93,11 @@ known_by v w es known a law = record {
       (in_either v.mine a.places k (subst (IsIn k) a.mine i));
   law = law;
 }
+
+at_longer : (xs ys : List Entry) (k : ℕ) (e : Entry) → get_elem? xs k ≡ some e → get_elem? (xs ++ ys) k ≡ some e
+at_longer [] ys k e at = absurd (some-ne-none e (sym at))
+at_longer (x ∷ xs) ys zero e at = at
+at_longer (x ∷ xs) ys (suc k) e at = at_longer xs ys k e at
 
 entry_on : (v w : CallerView) → Grows v w → (k : ℕ) (e : Entry) → get_elem? v.seen k ≡ some e → get_elem? w.seen k ≡ some e
 entry_on v w g k e at = subst (λ (l : List Entry). get_elem? l k ≡ some e) (sym g.seen.1) (at_longer v.seen g.seen.0 k e at)
