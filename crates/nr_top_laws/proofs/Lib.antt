@@ -3,3 +3,9 @@ pub mod ServerStatuses
 pub mod GatewayStatuses
 pub mod StatusCauses
 pub mod Logs
+pub mod CallerExchanges
+pub mod CallerParts
+pub mod CallerCommands
+pub mod FirstHistories
+pub mod KeptEnds
+pub mod NumberedStatuses

@@ -3,3 +3,4 @@ pub mod ServerStatuses
 pub mod GatewayStatuses
 pub mod StatusCauses
 pub mod Logs
+pub mod NumberedStatuses

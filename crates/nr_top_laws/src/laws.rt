@@ -3,6 +3,7 @@
 ghost use Rattle.nr_top_laws.specs.CommandStatuses.{ServedCommandsHaveStatuses};
 ghost use Rattle.nr_top_laws.specs.GatewayStatuses.{GatewayLinkFaults, GatewaysHaveStatuses};
 ghost use Rattle.nr_top_laws.specs.Logs.{MadeLogs, ReadLogs};
+ghost use Rattle.nr_top_laws.specs.NumberedStatuses.{NumberedLinesAreRead, NumberedStatusesHaveCauses};
 ghost use Rattle.nr_top_laws.specs.ServerStatuses.{ServersHaveStatuses};
 ghost use Rattle.nr_top_laws.specs.StatusCauses.{LinesAreRead, StatusesHaveCauses};
 
@@ -35,6 +36,14 @@ pub fn gateways_have_statuses<O, C>()
 pub fn statuses_have_causes()
     ensures causes { StatusesHaveCauses }
     ensures lines { LinesAreRead }
+{}
+
+/// The same of a command of a client with a number, which says at most 16 tries: 3 only if the dialer's count of faults rose; 4 only if the link was lost
+/// once more after all tries; 5, 6, 7, 8, 9, 10 and 11 only for the causes that `statuses_have_causes` names, by the history that its caller has seen and the
+/// calls of its own that were answered (`causes`). It is never 1 (`lines`).
+pub fn numbered_statuses_have_causes()
+    ensures causes { NumberedStatusesHaveCauses }
+    ensures lines { NumberedLinesAreRead }
 {}
 
 /// What a drill with `--log` printed is the text of the capture of its run if the status is 0: of a script that was read (`read`), and

@@ -6,6 +6,6 @@
 mod laws;
 
 pub use laws::{
-    gateways_have_statuses, logs_are_read_back, served_commands_have_statuses,
-    servers_have_statuses, statuses_have_causes,
+    gateways_have_statuses, logs_are_read_back, numbered_statuses_have_causes,
+    served_commands_have_statuses, servers_have_statuses, statuses_have_causes,
 };
