@@ -58,7 +58,7 @@ going_call l mark xid gives apart asks g =
       numbered = g.numbered;
     }
 
-client_kept : (opened : LinkParameters) (link : ℕ) (run : List Mark) → (reopened opened link run).client ≡ opened.client
+pub client_kept : (opened : LinkParameters) (link : ℕ) (run : List Mark) → (reopened opened link run).client ≡ opened.client
 unfolding reopened
 client_kept opened link run = refl
 

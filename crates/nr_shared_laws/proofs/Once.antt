@@ -14,7 +14,7 @@ use Rattle.nr_laws.proofs.LaterOutcomes.{no_outcome_twice}
 use Rattle.nr_shared.specs.LinkRuns.{OpenedLink}
 use Rattle.nr_shared_laws.specs.Sessions.{AreEarlier, IsAmong, OutcomesComeOnce, SessionStagsAreDead, opened_by}
 
-pick : (P : ℕ → Type 0) (xs : List OpenedLink) (link : ℕ) → AllByRecursion (λ (e : OpenedLink). P e.link) xs → IsAmong xs link → P link
+pub pick : (P : ℕ → Type 0) (xs : List OpenedLink) (link : ℕ) → AllByRecursion (λ (e : OpenedLink). P e.link) xs → IsAmong xs link → P link
 pick P [] link all there = absurd (let wrong : false ≡ true = there in cc)
 pick P (x ∷ xs) link all there = by (eqb x.link link) refl there (pick P xs link all.1) where
   by : (b : Bool) → eqb x.link link ≡ b → (b || list_any (λ (e : OpenedLink). eqb e.link link) xs) ≡ true → (IsAmong xs link → P link) → P link
@@ -23,7 +23,7 @@ pick P (x ∷ xs) link all there = by (eqb x.link link) refl there (pick P xs li
 
 module _ (opened : ℕ → LinkParameters) (run : List Mark) where
   -- of two links one goes on from the other
-  either : (xs : List OpenedLink) (link other : ℕ) → AreEarlier opened run xs → IsAmong xs link → IsAmong xs other → IsEarlier opened run link other ⊎ IsEarlier opened run other link
+  pub either : (xs : List OpenedLink) (link other : ℕ) → AreEarlier opened run xs → IsAmong xs link → IsAmong xs other → IsEarlier opened run link other ⊎ IsEarlier opened run other link
   either [] link other all a b = absurd (let wrong : false ≡ true = a in cc)
   either (x ∷ xs) link other all a b = by (eqb x.link other) refl (eqb x.link link) refl (λ there there_other. either xs link other all.1 there there_other) where
     rest : (k : ℕ) → IsAmong (x ∷ xs) k → eqb x.link k ≡ false → IsAmong xs k

@@ -72,7 +72,7 @@ not_among other (x ∷ xs) link none = by (eqb x.link link) none (not_among othe
   by false is later = later is
 
 -- a link with a client number is one of these
-numbered_among : (other : LinkParameters) (xs : List OpenedLink) (link : ℕ) → (opened_among other xs link).client.number ≢ 0 → IsAmong xs link
+pub numbered_among : (other : LinkParameters) (xs : List OpenedLink) (link : ℕ) → (opened_among other xs link).client.number ≢ 0 → IsAmong xs link
 numbered_among other xs link numbered = by (list_any (λ (e : OpenedLink). eqb e.link link) xs) refl where
   by : (b : Bool) → list_any (λ (e : OpenedLink). eqb e.link link) xs ≡ b → IsAmong xs link
   by true is = is
@@ -89,7 +89,7 @@ among_all P other (x ∷ xs) link all there = by (eqb x.link link) refl there (a
 -- ---- One link goes on from another
 
 -- a link that one of these goes on from is one of them
-in_session : (other : LinkParameters) (xs : List OpenedLink) (run : List Mark) (first : ℕ) (link : BegunLink) (links : List BegunLink) → GoesOn (opened_among other xs) run first link links → IsAmong xs link.link → IsAmong xs first
+pub in_session : (other : LinkParameters) (xs : List OpenedLink) (run : List Mark) (first : ℕ) (link : BegunLink) (links : List BegunLink) → GoesOn (opened_among other xs) run first link links → IsAmong xs link.link → IsAmong xs first
 in_session other xs run first link [] goes there = subst (IsAmong xs) goes there
 in_session other xs run first link (old ∷ links) goes there = in_session other xs run first old links goes.1 (numbered_among other xs old.link goes.0.reopened.numbered)
 

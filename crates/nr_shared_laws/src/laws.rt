@@ -1,5 +1,6 @@
 //! Laws of the links of a session.
 
+ghost use Rattle.nr_shared_laws.specs.BothSides.{BothSidesGoOn, SessionChangesTakeEffectOnce};
 ghost use Rattle.nr_shared_laws.specs.Sessions.{OutcomesComeOnce, RepresentedLinksGoOn, SessionLinksGoOn, SessionStagsAreDead};
 
 /// The links of a history that keeps the law are links of one client: each was opened with what the client knew when it left the link before it, and
@@ -22,4 +23,16 @@ pub fn session_stags_are_dead()
 /// those of a requester that `close` gives back.
 pub fn represented_links_go_on()
     ensures { RepresentedLinksGoOn }
+{}
+
+/// A run of both sides of a session's links, in which the client's marks there are those of the session, each server keeps its law, and each side receives what
+/// the other sends: there too the links are links of one client, and each is matched with those before it.
+pub fn both_sides_go_on()
+    ensures { BothSidesGoOn }
+{}
+
+/// In such a run the one journal has at most one entry of a number and an xid, whatever links were lost; and a call of the session that completed with a change
+/// has its one entry. Premises: no other client has the session's number, and the servers add to one journal and keep calls.
+pub fn session_changes_take_effect_once()
+    ensures { SessionChangesTakeEffectOnce }
 {}

@@ -6,5 +6,6 @@
 mod laws;
 
 pub use laws::{
-    outcomes_come_once, represented_links_go_on, session_links_go_on, session_stags_are_dead,
+    both_sides_go_on, outcomes_come_once, represented_links_go_on,
+    session_changes_take_effect_once, session_links_go_on, session_stags_are_dead,
 };
