@@ -5,7 +5,7 @@ use Rattle.nr_reduce.specs.declared.mark.Mark.{Mark}
 use Rattle.nr_laws.specs.MarkAt.{MarkAt}
 use Rattle.nr_shared_laws.specs.BothSides.{up_to}
 
-head_or : Mark → List Mark → Mark
+abbrev head_or : Mark → List Mark → Mark
 head_or other [] = other
 head_or other (m ∷ ms) = m
 

@@ -1,13 +1,11 @@
 -- With the marks of both sides the links of a session go on from one another, and its changes have their entries.
-use Rattle.std.proofs.Common.{◌≡◌, ◌≢◌, ◌⊎◌, ⊎_elim, inl, inr, ℕ, ◌<◌, ◌^◌, eqb, cond, ◌&&◌, ◌||◌, not, Bool, true, false, List, [], ◌∷◌, ◌++◌, map, None, Some, refl, sym, ap, subst, ◌∙◌}
+use Rattle.std.proofs.Common.{◌≡◌, ◌⊎◌, ⊎_elim, inl, inr, ℕ, ◌<◌, ◌^◌, eqb, cond, ◌&&◌, ◌||◌, not, Bool, true, false, List, [], ◌∷◌, ◌++◌, map, None, refl, sym, ap, subst, ◌∙◌}
 use Rattle.std.specs.Prelude.{Contains}
 use Rattle.std.specs.List.{AllByRecursion, filter, flat_map, list_any}
 use Rattle.std.proofs.lemmas.Bool.{eqb-true, eq-eqb}
 use Rattle.nr_wire.specs.declared.hello.Side.{Side}
-use Rattle.nr_wire.specs.declared.hello.Side.TheVariants.{Initiator, Responder}
+use Rattle.nr_wire.specs.declared.hello.Side.TheVariants.{Initiator}
 use Rattle.nr_link.specs.declared.agreement.SideTerms.{SideTerms}
-use Rattle.nr_reduce.specs.declared.call.Call.{Call}
-use Rattle.nr_reduce.specs.declared.call.Form.{Form}
 use Rattle.nr_reduce.specs.declared.call.Outcome.TheVariants as outcomes
 use Rattle.nr_reduce.specs.declared.call.Submission.TheVariants as submissions
 use Rattle.nr_reduce.specs.declared.mark.LinkParameters.{LinkParameters}
@@ -20,19 +18,17 @@ use Rattle.nr_reduce.specs.ClientState.{ClientState}
 use Rattle.nr_reduce.specs.EndRules.{EndState}
 use Rattle.nr_reduce.specs.Events.{RunEvent, events}
 use Rattle.nr_reduce.specs.Events.RunEvent.{CallExecuted, CallSubmitted, FrameReceived, MemoryRevoked, QueueWritten, ServerTold}
-use Rattle.nr_reduce.specs.History.{CompletedCall, accepted_calls, is_abandoned, same_side}
+use Rattle.nr_reduce.specs.History.{accepted_calls, is_abandoned, same_side}
 use Rattle.nr_reduce.specs.Matched.{IsPrefixOf}
 use Rattle.nr_reduce.specs.NumberedJournal.{number_heard}
-use Rattle.nr_reduce.specs.Opening.{IsOpened}
 use Rattle.nr_reduce.specs.Reopening.{HasAnswer, IsLate, calls_kept, last_agreement, reopened, resumed_again, resumed_of}
 use Rattle.nr_reduce.specs.Run.{client}
-use Rattle.nr_laws.specs.MatchedSoFar.{MatchedSoFar}
 use Rattle.nr_laws.specs.OnceEach.{BegunLink, EachChangeOnce, GoesOn, HasEntry, IsAskedFor, IsEarlier, IsLinkOf, IsNextLink, MatchedWithEarlier, OpenedWithEarlier}
 use Rattle.nr_laws.specs.PlainLinks.{server_with}
 use Rattle.nr_laws.proofs.CompletedChanges.{changes_take_effect_once}
 use Rattle.nr_shared.specs.LinkRuns.{LinkRun, OpenedLink}
 use Rattle.nr_shared_laws.specs.Sessions.{AreEarlier, HasLink, IsAmong, IsSession, opened_among, opened_by}
-use Rattle.nr_shared_laws.specs.BothSides.{BothSidesGoOn, HasNumberAlone, IsBothSides, SessionChangesTakeEffectOnce, has_link, is_client_mark, up_to}
+use Rattle.nr_shared_laws.specs.BothSides.{BothSidesGoOn, IsBothSides, SessionChangesTakeEffectOnce, has_link, is_client_mark, up_to}
 use Rattle.nr_shared_laws.proofs.Beginnings.{goes_after, goes_further, own_made, stands_in}
 use Rattle.nr_shared_laws.proofs.ClientSides.{abandoned_same, accepted_same, asked_in_both, client_same, events_same, is_mark_of}
 use Rattle.nr_shared_laws.proofs.GoingOn.{client_kept}

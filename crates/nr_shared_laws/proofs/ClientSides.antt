@@ -12,7 +12,7 @@ use Rattle.nr_reduce.specs.declared.call.Submission.TheVariants as submissions
 use Rattle.nr_reduce.specs.declared.mark.LinkParameters.{LinkParameters}
 use Rattle.nr_reduce.specs.declared.mark.Mark.{Mark}
 use Rattle.nr_reduce.specs.declared.mark.Mark.TheVariants as marks
-use Rattle.nr_reduce.specs.Asked.{AskedMark, IsAccepted, IsAwaited, IsAwaitedOrWaits, IsLost, IsResent, IsRevoked, as_accepted, revoked_bytes}
+use Rattle.nr_reduce.specs.Asked.{AskedMark, IsAccepted, IsAwaited, IsAwaitedOrWaits, IsLost, IsResent, as_accepted, revoked_bytes}
 use Rattle.nr_reduce.specs.AtEachMark.{AtEachMark}
 use Rattle.nr_reduce.specs.Client.{client_rules, initial_client}
 use Rattle.nr_reduce.specs.ClientState.{ClientState, plan_for, stags_taken}
