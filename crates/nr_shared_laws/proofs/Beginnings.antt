@@ -1,5 +1,5 @@
 -- A run up to some of the client's marks: what of it is the client's, and how such beginnings follow on one another.
-use Rattle.std.proofs.Common.{◌≡◌, Bool, true, false, cond, drop, List, [], ◌∷◌, ◌++◌, refl, ap, ◌∙◌}
+use Rattle.std.proofs.Common.{◌≡◌, Bool, true, false, cond, drop, List, [], ◌∷◌, ◌++◌, refl, ap, ◌∙◌, append_assoc}
 use Rattle.std.specs.List.{filter}
 use Rattle.nr_reduce.specs.declared.mark.Mark.{Mark}
 use Rattle.nr_laws.specs.MarkAt.{MarkAt}
@@ -53,3 +53,10 @@ stands_in is_own (x ∷ run) before m after e = by (is_own x) before e (λ bs la
   by true [] is rest = ([], record { after = run; is = ap (λ (y : Mark). y ∷ run) (ap (head_or m) is) })
   by true (y ∷ bs) is rest = more (rest bs (ap (drop 1) is))
   by false bs is rest = more (rest bs is)
+
+-- what stands in a run up to a mark stands in the run
+pub stands_before : (run before earlier : List Mark) (first m : Mark) → MarkAt run before m → MarkAt before earlier first → MarkAt run earlier first
+stands_before run before earlier first m at there = record {
+  after = there.after ++ m ∷ at.after;
+  is = at.is ∙ (ap (λ (r : List Mark). r ++ m ∷ at.after) there.is ∙ append_assoc earlier (first ∷ there.after) (m ∷ at.after));
+}

@@ -3,33 +3,38 @@ use Rattle.std.proofs.Common.{◌≡◌, ◌⊎◌, ⊎_elim, inl, inr, ℕ, ◌
 use Rattle.std.specs.Prelude.{Contains}
 use Rattle.std.specs.List.{AllByRecursion, filter, flat_map, list_any}
 use Rattle.std.proofs.lemmas.Bool.{eqb-true, eq-eqb}
+use Rattle.std.proofs.lemmas.List.Elements.{All-contains, All-from_recursion}
 use Rattle.nr_wire.specs.declared.hello.Side.{Side}
 use Rattle.nr_wire.specs.declared.hello.Side.TheVariants.{Initiator}
 use Rattle.nr_link.specs.declared.agreement.SideTerms.{SideTerms}
+use Rattle.nr_reduce.specs.declared.call.Outcome.{Outcome}
 use Rattle.nr_reduce.specs.declared.call.Outcome.TheVariants as outcomes
 use Rattle.nr_reduce.specs.declared.call.Submission.TheVariants as submissions
 use Rattle.nr_reduce.specs.declared.mark.LinkParameters.{LinkParameters}
 use Rattle.nr_reduce.specs.declared.mark.Mark.{Mark}
 use Rattle.nr_reduce.specs.declared.mark.Mark.TheVariants as marks
 use Rattle.nr_reduce.specs.declared.mark.ResumedCall.{ResumedCall}
-use Rattle.nr_reduce.specs.Asked.{AskedMark, AskedSoFar}
+use Rattle.nr_reduce.specs.Asked.{AskedMark, AskedSoFar, IsCompleted}
 use Rattle.nr_reduce.specs.AtEachMark.{AtEachMark}
 use Rattle.nr_reduce.specs.ClientState.{ClientState}
 use Rattle.nr_reduce.specs.EndRules.{EndState}
 use Rattle.nr_reduce.specs.Events.{RunEvent, events}
 use Rattle.nr_reduce.specs.Events.RunEvent.{CallExecuted, CallSubmitted, FrameReceived, MemoryRevoked, QueueWritten, ServerTold}
-use Rattle.nr_reduce.specs.History.{accepted_calls, is_abandoned, same_side}
+use Rattle.nr_reduce.specs.History.{AcceptedCall, accepted_calls, is_abandoned, same_side}
 use Rattle.nr_reduce.specs.Matched.{IsPrefixOf}
 use Rattle.nr_reduce.specs.NumberedJournal.{number_heard}
 use Rattle.nr_reduce.specs.Reopening.{HasAnswer, IsLate, calls_kept, last_agreement, reopened, resumed_again, resumed_of}
 use Rattle.nr_reduce.specs.Run.{client}
+use Rattle.nr_reduce.proofs.Placing.{AtEachMark_at}
+use Rattle.nr_laws.specs.MarkAt.{MarkAt}
 use Rattle.nr_laws.specs.OnceEach.{BegunLink, EachChangeOnce, GoesOn, HasEntry, IsAskedFor, IsEarlier, IsLinkOf, IsNextLink, MatchedWithEarlier, OpenedWithEarlier}
 use Rattle.nr_laws.specs.PlainLinks.{server_with}
 use Rattle.nr_laws.proofs.CompletedChanges.{changes_take_effect_once}
+use Rattle.nr_laws.proofs.OutstandingSubmits.{IsSubmitted, accepted_submitted}
 use Rattle.nr_shared.specs.LinkRuns.{LinkRun, OpenedLink}
 use Rattle.nr_shared_laws.specs.Sessions.{AreEarlier, HasLink, IsAmong, IsSession, opened_among, opened_by}
-use Rattle.nr_shared_laws.specs.BothSides.{BothSidesGoOn, IsBothSides, SessionChangesTakeEffectOnce, has_link, is_client_mark, up_to}
-use Rattle.nr_shared_laws.proofs.Beginnings.{goes_after, goes_further, own_made, stands_in}
+use Rattle.nr_shared_laws.specs.BothSides.{BothSidesGoOn, IsBothSides, IsOfCall, SessionChangesTakeEffectOnce, has_link, is_client_mark, up_to}
+use Rattle.nr_shared_laws.proofs.Beginnings.{goes_after, goes_further, own_made, stands_before, stands_in}
 use Rattle.nr_shared_laws.proofs.ClientSides.{abandoned_same, accepted_same, asked_in_both, client_same, events_same, is_mark_of}
 use Rattle.nr_shared_laws.proofs.GoingOn.{client_kept}
 use Rattle.nr_shared_laws.proofs.Once.{either, pick}
@@ -213,6 +218,25 @@ number_of l s link there = pick (λ (k : ℕ). (opened_by l k).client.number ≡
   each [] h = tt
   each (e ∷ es) h = (sym (number_on (opened_by l) l.run e.link (record { link = l.at.link; began = h.0.began }) h.0.links h.0.goes_on) ∙ last, each es h.1)
 
+-- ---- The call of an outcome
+
+of_call : (l : LinkRun) → IsSession l → (link : ℕ) (before : List Mark) (xid : ℕ) (outcome : Outcome) → HasLink l link → MarkAt l.run before (marks.Done link xid outcome) → IsOfCall l link xid
+of_call l s link before xid outcome there at =
+    let itself = itself_earlier (opened_by l) l.run link in
+    let law : AtEachMark (AskedMark IsPrefixOf (opened_by l link) link) [] (before ++ marks.Done link xid outcome ∷ at.after) =
+    subst (λ (run : List Mark). AtEachMark (AskedMark IsPrefixOf (opened_by l link) link) [] run) at.is (s.asked_with link there link itself) in
+    let done : IsCompleted (opened_by l link) link before xid outcome = AtEachMark_at (AskedMark IsPrefixOf (opened_by l link) link) [] before (marks.Done link xid outcome) at.after law refl in
+    let w = done.awaited in
+    let a : AcceptedCall = w.asked in
+    let submit : IsSubmitted link before a = All-contains (IsSubmitted link before) (accepted_calls link before) a (All-from_recursion (IsSubmitted link before) (accepted_calls link before) (accepted_submitted link before)) w.is_asked in
+    let first : Mark = marks.Submit link a.call a.form (submissions.Accepted a.xid) in
+    let own : MarkAt l.run submit.before first = stands_before l.run before submit.before first (marks.Done link xid outcome) at submit.at in
+    record {
+      call = a.call;
+      form = a.form;
+      asked = record { first = link; earlier = itself; before = submit.before; at = subst (λ (n : ℕ). MarkAt l.run submit.before (marks.Submit link a.call a.form (submissions.Accepted n))) w.own own };
+    }
+
 -- ---- Each change once
 
 pub session_changes_take_effect_once : SessionChangesTakeEffectOnce
@@ -220,6 +244,7 @@ session_changes_take_effect_once reply_to adds l both T s sides alone numbered f
     let every : EachChangeOnce (server_with reply_to adds) T (opened_by l) both = changes_take_effect_once reply_to adds (opened_by l) T both typed journaled keeps in
     record {
       once = every.once;
+      of_call = of_call l s;
       completed = λ link before xid call form moment payload reply there asked at conveyed some.
           (let number : (opened_by l link).client.number ≡ l.at.opened.client.number = number_of l s link there in
           let done = stands_in (is_client_mark l) both before (marks.Done link xid (outcomes.Reply reply)) at.after (sides.client_side ∙ at.is) in

@@ -5,6 +5,7 @@ use Rattle.nr_outside.specs.declared.moment.Moment.{Moment}
 use Rattle.nr_wire.specs.declared.hello.Side.TheVariants.{Initiator, Responder}
 use Rattle.nr_reduce.specs.declared.call.Call.{Call}
 use Rattle.nr_reduce.specs.declared.call.Form.{Form}
+use Rattle.nr_reduce.specs.declared.call.Outcome.{Outcome}
 use Rattle.nr_reduce.specs.declared.call.Outcome.TheVariants as outcomes
 use Rattle.nr_reduce.specs.declared.mark.Entry.{Entry}
 use Rattle.nr_reduce.specs.declared.mark.Mark.{Mark}
@@ -74,11 +75,18 @@ HasNumberAlone l both = (link other : ℕ) → HasLink l link → number_heard b
 abbrev pub BothSidesGoOn : Type 0
 BothSidesGoOn = (l : LinkRun) (both : List Mark) → IsSession l → IsBothSides l both → IsSession (record l { run = both }) × ((link : ℕ) → HasLink l link → MatchedWithEarlier (opened_by l) both link)
 
--- What is so of the changes of a session. No two entries of the journal are of one number and one xid. A call was submitted on a link or on one before it, and
--- its outcome was handed over on that link: a reply, which adds an entry. Then there is one entry with the session's number and the call's xid: that which the
--- call adds by what its form conveys, and the reply is the one of that entry.
+-- a call was submitted under this xid, on this link of the session or on one before it
+pub record IsOfCall (l : LinkRun) (link xid : ℕ) : Type 0 where
+  pub call : Call
+  pub form : Form
+  pub asked : IsAskedFor (opened_by l) link l.run xid call form
+
+-- What is so of the changes of a session. No two entries of the journal are of one number and one xid. Each outcome that was handed over is of a call that was
+-- submitted. If it is a reply, and what the form of a call that was submitted so conveys adds an entry, there is one entry with the session's number and the
+-- call's xid: that which the call adds, and the reply is the one of that entry.
 pub record SessionChangesOnce (plain : PlainServer) (T : List TaggedEntry) (l : LinkRun) : Type 0 where
   pub once : HasNoEntryTwice T
+  pub of_call : (link : ℕ) (before : List Mark) (xid : ℕ) (outcome : Outcome) → HasLink l link → MarkAt l.run before (marks.Done link xid outcome) → IsOfCall l link xid
   pub completed : (link : ℕ) (before : List Mark) (xid : ℕ) (call : Call) (form : Form) (moment : Moment) (payload reply : List ℕ) → HasLink l link → IsAskedFor (opened_by l) link l.run xid call form →
       MarkAt l.run before (marks.Done link xid (outcomes.Reply reply)) → form_conveyed form (call_payload xid call) ≡ Some payload → plain.adds moment payload reply ≢ [] →
       HasEntry plain T l.at.opened.client.number xid payload reply
