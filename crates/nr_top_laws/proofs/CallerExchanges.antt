@@ -203,14 +203,34 @@ refused_cause v w call end r = (call, (w.seen, (r.law.initial, (r.law.is_initial
 
 pub gone_cause : (v w : CallerView) (call : Call) (end : CallEnd) → GivesUpBy v w call end → HasCause end w
 gone_cause v w call end (inl r) = refused_cause v w call end r
-gone_cause v w call end (inr f) =
-    (call, (f.before, (f.law.initial, (initial_before f.before f.xid f.at f.law.initial (ap (λ (l : List Entry). initial_of l) (sym f.seen) ∙ f.law.is_initial),
-    ((entries.Forget f.xid f.at ∷ [], f.seen), cause_of_end end call f.before f.ended)))))
+gone_cause v w call end (inr f) = (
+  call,
+  (
+    f.before,
+    (
+      f.law.initial,
+      (
+        initial_before f.before f.xid f.at f.law.initial (ap (λ (l : List Entry). initial_of l) (sym f.seen) ∙ f.law.is_initial),
+        ((entries.Forget f.xid f.at ∷ [], f.seen), cause_of_end end call f.before f.ended),
+      ),
+    ),
+  ),
+)
 
 pub forgotten_cause : (v w : CallerView) (xid : ℕ) (end : CallEnd) → ForgetsBy xid end v w → HasCause end w
-forgotten_cause v w xid end f =
-    (f.call, (f.before, (f.law.initial, (initial_before f.before xid f.at f.law.initial (ap (λ (l : List Entry). initial_of l) (sym f.seen) ∙ f.law.is_initial),
-    ((entries.Forget xid f.at ∷ [], f.seen), cause_of_end end f.call f.before f.ended)))))
+forgotten_cause v w xid end f = (
+  f.call,
+  (
+    f.before,
+    (
+      f.law.initial,
+      (
+        initial_before f.before xid f.at f.law.initial (ap (λ (l : List Entry). initial_of l) (sym f.seen) ∙ f.law.is_initial),
+        ((entries.Forget xid f.at ∷ [], f.seen), cause_of_end end f.call f.before f.ended),
+      ),
+    ),
+  ),
+)
 
 pub cause_on : (v w : CallerView) (end : CallEnd) → Grows v w → HasCause end v → HasCause end w
 cause_on v w end g (call, (h, (i, (first, (begins, is))))) = (call, (h, (i, (first, (begins_then h v.seen w.seen begins g.seen, is)))))
