@@ -12,10 +12,11 @@ use Rattle.nr_shared.specs.declared.call_end.CallEnd.{CallEnd}
 use Rattle.nr_shared.specs.declared.call_end.CallEnd.TheVariants as calls
 use Rattle.nr_shared.specs.declared.entry.Entry.{Entry}
 use Rattle.nr_shared.specs.declared.entry.Entry.TheVariants as entries
+use Rattle.nr_shared.specs.declared.entry.InitialState.{InitialState}
 use Rattle.nr_shared.specs.Adding.{AreAt}
 use Rattle.nr_shared.specs.Callers.{KeepsLaw}
 use Rattle.nr_shared.specs.Ending.{IsCause, LinkEnded, LossEnds}
-use Rattle.nr_shared.specs.Histories.{IsCallAt, submitted_call, tries_of}
+use Rattle.nr_shared.specs.Histories.{IsCallAt, initial_of, submitted_call, tries_of}
 use Rattle.nr_shared.proofs.Adding.{at_one, begins_then}
 use Rattle.nr_shared.proofs.Asking.{some_same}
 use Rattle.nr_shared.proofs.Lists.{at_below, in_either, in_more}
@@ -181,18 +182,58 @@ cause_of_end (calls.TooLarge need room) call h ended = absurd (loss_of_call (tri
 cause_of_end (calls.Budget count) call h ended = ended
 cause_of_end calls.Memory call h ended = tt
 
+-- what stands before a Forget begins with the initial state
+initial_before : (h : List Entry) (xid at : ℕ) (c : InitialState) → initial_of (h ++ entries.Forget xid at ∷ []) ≡ Some c → initial_of h ≡ Some c
+initial_before [] xid at c is = absurd cc
+initial_before (entries.Initial initial ∷ xs) xid at c is = is
+initial_before (entries.Submit call form x ∷ xs) xid at c is = absurd cc
+initial_before (entries.Wrote bytes ∷ xs) xid at c is = absurd cc
+initial_before (entries.Fed bytes previous ∷ xs) xid at c is = absurd cc
+initial_before (entries.Done x outcome submit ∷ xs) xid at c is = absurd cc
+initial_before (entries.Lost x submit ∷ xs) xid at c is = absurd cc
+initial_before (entries.Forget x submit ∷ xs) xid at c is = absurd cc
+initial_before (entries.Revoke x bytes submit ∷ xs) xid at c is = absurd cc
+initial_before (entries.WriteFailed ∷ xs) xid at c is = absurd cc
+initial_before (entries.Stopped cause previous ∷ xs) xid at c is = absurd cc
+initial_before (entries.OutOfMemory piece previous ∷ xs) xid at c is = absurd cc
+initial_before (entries.Rejoin sink previous ∷ xs) xid at c is = absurd cc
+
 pub refused_cause : (v w : CallerView) (call : Call) (end : CallEnd) → RefusesBy v w call end → HasCause end w
-refused_cause v w call end r = (call, (w.seen, (begins_same w.seen, r.cause)))
+refused_cause v w call end r = (call, (w.seen, (r.law.initial, (r.law.is_initial, (begins_same w.seen, r.cause)))))
 
 pub gone_cause : (v w : CallerView) (call : Call) (end : CallEnd) → GivesUpBy v w call end → HasCause end w
 gone_cause v w call end (inl r) = refused_cause v w call end r
-gone_cause v w call end (inr f) = (call, (f.before, ((entries.Forget f.xid f.at ∷ [], f.seen), cause_of_end end call f.before f.ended)))
+gone_cause v w call end (inr f) = (
+  call,
+  (
+    f.before,
+    (
+      f.law.initial,
+      (
+        initial_before f.before f.xid f.at f.law.initial (ap (λ (l : List Entry). initial_of l) (sym f.seen) ∙ f.law.is_initial),
+        ((entries.Forget f.xid f.at ∷ [], f.seen), cause_of_end end call f.before f.ended),
+      ),
+    ),
+  ),
+)
 
 pub forgotten_cause : (v w : CallerView) (xid : ℕ) (end : CallEnd) → ForgetsBy xid end v w → HasCause end w
-forgotten_cause v w xid end f = (f.call, (f.before, ((entries.Forget xid f.at ∷ [], f.seen), cause_of_end end f.call f.before f.ended)))
+forgotten_cause v w xid end f = (
+  f.call,
+  (
+    f.before,
+    (
+      f.law.initial,
+      (
+        initial_before f.before xid f.at f.law.initial (ap (λ (l : List Entry). initial_of l) (sym f.seen) ∙ f.law.is_initial),
+        ((entries.Forget xid f.at ∷ [], f.seen), cause_of_end end f.call f.before f.ended),
+      ),
+    ),
+  ),
+)
 
 pub cause_on : (v w : CallerView) (end : CallEnd) → Grows v w → HasCause end v → HasCause end w
-cause_on v w end g (call, (h, (begins, is))) = (call, (h, (begins_then h v.seen w.seen begins g.seen, is)))
+cause_on v w end g (call, (h, (i, (first, (begins, is))))) = (call, (h, (i, (first, (begins_then h v.seen w.seen begins g.seen, is)))))
 
 -- ---- What each call adds
 

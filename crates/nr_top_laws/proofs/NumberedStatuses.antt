@@ -51,19 +51,19 @@ module _ (tries : ℕ) (v : CallerView) (c : InitialState) (rest : List Entry) (
       (first_tries h begins.0 rest c (sym begins.1 ∙ seen) (λ (l : List Entry). LossEnds (tries_of l) end l) ended never ∙ has_tries) ended
 
   not_read : HasCause calls.LinkRead v → ⊥
-  not_read (call, (h, (begins, is))) = lost_by calls.LinkRead h begins is (λ wrong. let e = wrong in cc)
+  not_read (call, (h, (i, (first, (begins, is))))) = lost_by calls.LinkRead h begins is (λ wrong. let e = wrong in cc)
 
   not_written : HasCause calls.LinkWrite v → ⊥
-  not_written (call, (h, (begins, is))) = lost_by calls.LinkWrite h begins is (λ wrong. let e = wrong in cc)
+  not_written (call, (h, (i, (first, (begins, is))))) = lost_by calls.LinkWrite h begins is (λ wrong. let e = wrong in cc)
 
   not_closed : HasCause calls.Closed v → ⊥
-  not_closed (call, (h, (begins, is))) = lost_by calls.Closed h begins is (λ wrong. let e = wrong in cc)
+  not_closed (call, (h, (i, (first, (begins, is))))) = lost_by calls.Closed h begins is (λ wrong. let e = wrong in cc)
 
   all_tries : (n : ℕ) → HasCause (calls.Tries n) v → n ≡ tries
-  all_tries n (call, (h, (begins, is))) = (lost_by (calls.Tries n) h begins is (λ wrong. wrong)).0
+  all_tries n (call, (h, (i, (first, (begins, is))))) = (lost_by (calls.Tries n) h begins is (λ wrong. wrong)).0
 
   dial_failed : HasCause calls.DialFault v → (h : List Entry) × (Begins h v.seen × (stop_of h ≡ Some causes.DialFault))
-  dial_failed (call, (h, (begins, is))) = (h, (begins, lost_by calls.DialFault h begins is (λ wrong. wrong)))
+  dial_failed (call, (h, (i, (first, (begins, is))))) = (h, (begins, lost_by calls.DialFault h begins is (λ wrong. wrong)))
 
 -- ---- The status of an end
 

@@ -18,7 +18,9 @@ use Rattle.nr_shared.specs.declared.call_end.CallEnd.{CallEnd}
 use Rattle.nr_shared.specs.declared.call_end.CallEnd.TheVariants as calls
 use Rattle.nr_shared.specs.declared.entry.Entry.{Entry}
 use Rattle.nr_shared.specs.declared.entry.Entry.TheVariants as entries
+use Rattle.nr_shared.specs.declared.entry.InitialState.{InitialState}
 use Rattle.nr_shared.specs.Ending.{IsCause}
+use Rattle.nr_shared.specs.Histories.{initial_of}
 use Rattle.nr_client.specs.declared.client_end.ClientEnd.{ClientEnd}
 use Rattle.nr_client.specs.declared.client_end.ClientEnd.TheVariants as client
 use Rattle.nr_client.specs.CallerViews.{CallerView}
@@ -53,9 +55,9 @@ exchanges_at seen (k ∷ ks) = with_exchange seen (get_elem? seen k) (exchanges_
 abbrev pub answered_calls : CallerView → List Exchange
 answered_calls v = exchanges_at v.seen v.mine
 
--- a beginning of the history that the caller has seen is the cause of this end of a call
+-- A beginning of the history that the caller has seen, in which the requester was shared already, is the cause of this end of a call.
 abbrev pub HasCause : CallEnd → CallerView → Type 0
-HasCause end v = (call : Call) × ((history : List Entry) × (Begins history v.seen × IsCause end call forms.Auto history))
+HasCause end v = (call : Call) × ((history : List Entry) × ((initial : InitialState) × ((initial_of history ≡ Some initial) × (Begins history v.seen × IsCause end call forms.Auto history))))
 
 -- ---- The status
 
