@@ -181,7 +181,7 @@ def commands(t: Tries) -> None:
 
 
 def one_number_twice(t: Tries) -> None:
-    """A number serves one run. Used again it gets the first run's replies, and changes nothing."""
+    """A number is for one run. A second run of the same calls gets the replies of the first one's changes, and changes nothing."""
     numbered = ['--client', t.number(), '--tries', '0']
     t.same('put', t.directly(['put', '/one', *numbered], b'hello'), (0, b'', ''))
     t.changed(2)
