@@ -1,0 +1,2 @@
+N=$1; shift
+bash /tmp/caller/run.sh /tmp/caller/$N.log shared_link::outcome_of shared_link::open shared_link::close shared_link::call shared_link::submit shared_link::wait shared_link::forget shared_link::has_credit session::open_numbered session::close shared_link::hang_up_last 'shared_link::*' -- shared_link nr_client::session::Session+SharedLink+R+I+O+D::open_numbered nr_client::session::Session+SharedLink+R+I+O+D::close > /tmp/caller/$N.out 2>&1

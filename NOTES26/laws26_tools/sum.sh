@@ -1,0 +1,2 @@
+# sum.sh LOG: lines of verdict, without those of stubs (unreachable-requires)
+grep -nE '^fn |error|is not checked until|must prove|^only|^real|^user|may be false' $1 | grep -v 'must prove: ⊥' | grep -vE '^[0-9]+:(note: .unreachable-requires)' | sed -E 's/, which (is|are) not proved//; s/no proof: expected answers in [^;]*$/STUB/; s/no proof: expected answers in ([^;]*); `search` did not prove `unreachable-requires`$/STUB/' | cut -c1-330
