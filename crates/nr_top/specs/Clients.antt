@@ -6,6 +6,7 @@ use Rattle.nr_link.specs.declared.end.End.TheVariants as ends
 use Rattle.nr_words.specs.Lines.{Text}
 use Rattle.nr_words.specs.declared.commands.Client.{Client}
 use Rattle.nr_words.specs.declared.commands.GetByJobs.{GetByJobs}
+use Rattle.nr_words.specs.declared.commands.NumberedClient.{NumberedClient}
 use Rattle.nr_shared.specs.declared.call_end.CallEnd.{CallEnd}
 use Rattle.nr_shared.specs.declared.call_end.CallEnd.TheVariants as calls
 use Rattle.nr_client.specs.declared.client_end.ClientEnd.{ClientEnd}
@@ -13,6 +14,7 @@ use Rattle.nr_client.specs.declared.client_end.ClientEnd.TheVariants as client
 use Rattle.nr_commands.specs.Endings.{end_text}
 use Rattle.nr_client.specs.Dialing.{DialerAt}
 use Rattle.nr_commands.specs.ByJobs.{GetsByJobs}
+use Rattle.nr_commands.specs.NumberedRuns.{RunsNumbered}
 use Rattle.nr_commands.specs.Running.{Runs}
 use Rattle.nr_top.specs.Ends.{Reported, memory_text}
 use Rattle.nr_top.specs.Statuses as statuses
@@ -60,6 +62,12 @@ pub data ClientEnds (c : Client Text) (status : ℕ) (dialer dialer' : DialerAt)
   Done : status ≡ statuses.done → Runs c dialer dialer' input input' out out' (Ok tt) → err' ≡ err → ClientEnds c status dialer dialer' input input' out out' err err'
   NotDone : (end : ClientEnd) → Runs c dialer dialer' input input' out out' (Err end) → ReportsEnd end status err err' →
       ClientEnds c status dialer dialer' input input' out out' err err'
+
+-- what the status of a command of a client with a number says
+pub data NumberedEnds (c : NumberedClient Text) (status : ℕ) (dialer dialer' : DialerAt) (input input' : SourceAt) (out out' err err' : SinkAt) : Type 0 where
+  NumberedDone : status ≡ statuses.done → RunsNumbered c dialer dialer' input input' out out' (Ok tt) → err' ≡ err → NumberedEnds c status dialer dialer' input input' out out' err err'
+  NumberedNotDone : (end : ClientEnd) → RunsNumbered c dialer dialer' input input' out out' (Err end) → ReportsEnd end status err err' →
+      NumberedEnds c status dialer dialer' input input' out out' err err'
 
 -- what the status of a `get` by several jobs says
 pub data GetEnds (get : GetByJobs Text) (status : ℕ) (dialer dialer' : DialerAt) (out out' err err' : SinkAt) : Type 0 where

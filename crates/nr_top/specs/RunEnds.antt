@@ -12,7 +12,7 @@ use Rattle.nr_words.specs.declared.words.WordsFault.TheVariants as faults
 use Rattle.nr_client.specs.Dialing.{DialerAt}
 use Rattle.nr_serve.specs.Serving.{AcceptorAt, SpawnerAt}
 use Rattle.nr_gateway.specs.Gateways.{around}
-use Rattle.nr_top.specs.Clients.{ClientEnds, GetEnds}
+use Rattle.nr_top.specs.Clients.{ClientEnds, GetEnds, NumberedEnds}
 use Rattle.nr_top.specs.Ends.{Ends, Reported, memory_text}
 use Rattle.nr_top.specs.Gating.{GatewayEnds}
 use Rattle.nr_top.specs.Statuses as statuses
@@ -52,6 +52,8 @@ DrillEnds log source status before after =
 abbrev pub CommandEnds : (O C : Type 0) → Command Text → ℕ → (before after : Outside) → Type 0
 CommandEnds O C (commands.Client c) status before after =
     ClientEnds c status before.dialer after.dialer before.input after.input before.out after.out before.err after.err × AcceptsNone before after
+CommandEnds O C (commands.NumberedClient c) status before after =
+    NumberedEnds c status before.dialer after.dialer before.input after.input before.out after.out before.err after.err × AcceptsNone before after
 CommandEnds O C (commands.GetByJobs get) status before after =
     GetEnds get status before.dialer after.dialer before.out after.out before.err after.err × ((after.input ≡ before.input) × AcceptsNone before after)
 CommandEnds O C (commands.Serve config) status before after =

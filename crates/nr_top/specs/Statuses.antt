@@ -17,7 +17,7 @@ no_memory = 2
 abbrev pub link_fault : ℕ
 link_fault = 3
 
--- the server ended its stream before the answer to a call came
+-- the server ended its stream before the answer to a call came, or the link of a client with a number was lost once more after all tries
 abbrev pub link_closed : ℕ
 link_closed = 4
 

@@ -2,10 +2,11 @@
 
 ghost use Rattle.std.specs.Prelude.{◌≡◌, ◌<◌, ◌≤◌};
 ghost use Rattle.nr_outside.specs.Streams.{sink_at, source_at};
-ghost use Rattle.nr_words.specs.Lines.{plain_client, plain_get};
+ghost use Rattle.nr_words.specs.Limits.{tries_max};
+ghost use Rattle.nr_words.specs.Lines.{plain_client, plain_get, plain_numbered};
 ghost use Rattle.nr_client.specs.Dialing.{dialer_at};
 ghost use Rattle.nr_client.specs.Jobs.{jobs_max};
-ghost use Rattle.nr_top.specs.Clients.{ClientEnds, GetEnds, ReportsEnd, call_status, link_status, status_of};
+ghost use Rattle.nr_top.specs.Clients.{ClientEnds, GetEnds, NumberedEnds, ReportsEnd, call_status, link_status, status_of};
 
 use crate::report::write_error;
 use crate::status::{
@@ -13,11 +14,11 @@ use crate::status::{
     PROTOCOL_FAULT, REFUSED, TRANSPORT_ERROR,
 };
 use nr_client::{CallEnd, ClientEnd};
-use nr_commands::{end_text, get_by_jobs, run_command};
+use nr_commands::{end_text, get_by_jobs, run_command, run_numbered};
 use nr_link::End;
 use nr_links::{Dialer, LinkSink, LinkSource};
 use nr_outside::{Sink, Source};
-use nr_words::{Client, GetByJobs};
+use nr_words::{Client, GetByJobs, NumberedClient};
 use std::alloc::Global;
 use std::sync::Wait;
 use std::thread::Threads;
@@ -90,6 +91,38 @@ pub(crate) fn run_client<
         (sink_at (E.taken err.old) (E.faults err.old)) (sink_at (E.taken err.new) (E.faults err.new)) }
 {
     match run_command(alloc, client, dial, input, out) {
+        Ok(()) => DONE,
+        Err(end) => report_end(alloc, end, err),
+    }
+}
+
+/// Runs a command of a client with a number, and gives the status: 0 if it was done. Else `err` takes the reason.
+pub(crate) fn run_numbered_client<
+    R: Wait,
+    I: Source,
+    P: LinkSource + Drop,
+    Q: LinkSink + Drop,
+    D: Dialer<Source = P, Sink = Q>,
+    O: Sink,
+    E: Sink,
+>(
+    rt: &R,
+    alloc: Global,
+    numbered: &NumberedClient<&str>,
+    dial: &mut D,
+    input: &mut I,
+    out: &mut O,
+    err: &mut E,
+) -> u8
+    requires { (0 < numbered.now.number) × (numbered.now.tries ≤ tries_max) }
+    ensures { NumberedEnds (plain_numbered numbered.now) result
+        (dialer_at (D.asked dial.old) (D.ended dial.old) (D.lost dial.old) (D.faults dial.old))
+        (dialer_at (D.asked dial.new) (D.ended dial.new) (D.lost dial.new) (D.faults dial.new))
+        (source_at (I.left input.old) (I.given input.old) (I.faults input.old)) (source_at (I.left input.new) (I.given input.new) (I.faults input.new))
+        (sink_at (O.taken out.old) (O.faults out.old)) (sink_at (O.taken out.new) (O.faults out.new))
+        (sink_at (E.taken err.old) (E.faults err.old)) (sink_at (E.taken err.new) (E.faults err.new)) }
+{
+    match run_numbered(rt, alloc, numbered, dial, input, out) {
         Ok(()) => DONE,
         Err(end) => report_end(alloc, end, err),
     }

@@ -10,7 +10,7 @@ ghost use Rattle.nr_serve.specs.Serving.{acceptor_at, spawner_at};
 ghost use Rattle.nr_shared.specs.declared.call_rule.AnyCall.{AnyCall};
 ghost use Rattle.nr_top.specs.RunEnds.{CommandEnds, RunEnds, outside};
 
-use crate::client::{run_client, run_get};
+use crate::client::{run_client, run_get, run_numbered_client};
 use crate::drill::{ScriptSource, run_drill};
 use crate::gating::run_gateway;
 use crate::report::answer_words;
@@ -69,6 +69,9 @@ where
 {
     match command {
         Command::Client { client } => run_client(alloc, client, dial, input, out, err),
+        Command::NumberedClient { client } => {
+            run_numbered_client(&rt, alloc, client, dial, input, out, err)
+        },
         Command::GetByJobs { get } => run_get(&rt, alloc, get, dial, out, err),
         Command::Serve { config: _config } => {
             run_server(rt, alloc, input, out, err, accept, clock, spawn)
@@ -109,7 +112,7 @@ where
 ///
 /// `RunEnds` of the specs says what each status means. 0: the command was done. 1: the words are refused.
 /// 2: memory ran out. 3: a fault count of `dial` or `accept` rose, or the count of lost links. 4: the server ended its
-/// stream. 5: the protocol of the link was broken, or a reply had no results. 6: a call or a mount was refused. 7: an NFS
+/// stream, or the link of a client with a number was lost once more after all tries. 5: the protocol of the link was broken, or a reply had no results. 6: a call or a mount was refused. 7: an NFS
 /// procedure failed. 8: the server answered ERR_CHUNK or ERR_VERS. 9: a fault count of `input`, `out` or `err` rose. 10: the
 /// script, the configuration or a path is bad. 11: a limit was passed.
 pub fn run<

@@ -12,7 +12,7 @@ pub const NO_MEMORY: u8 = 2;
 /// The link failed: the fault count of a dialer or of an acceptor rose, or a dialer's count of lost links.
 pub const LINK_FAULT: u8 = 3;
 
-/// The server ended its stream before the answer to a call came.
+/// The server ended its stream before the answer to a call came, or the link of a client with a number was lost once more after all tries.
 pub const LINK_CLOSED: u8 = 4;
 
 /// The protocol of the link was broken, or a reply had no results.

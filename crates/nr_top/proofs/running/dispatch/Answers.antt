@@ -1,10 +1,16 @@
 use Rattle.std.proofs.Common.{refl}
 use denote.Param.Send.{sendable}
-use Rattle.nr_top.proofs.Lines.{has_jobs, has_ranges}
+use Rattle.nr_top.proofs.Lines.{has_jobs, has_numbers, has_ranges}
 use Rattle.nr_top.proofs.running.dispatch.Goals as goal
 
 pub returns-in-Client : goal.returns-in-Client
 returns-in-Client g c = rw c.in-Client.is (c.run_client.ensures, record { acceptor = refl; spawner = refl; gates = refl; gave = refl })
+
+pub returns-in-NumberedClient : goal.returns-in-NumberedClient
+returns-in-NumberedClient g c = rw c.in-NumberedClient.is (c.run_numbered_client.ensures, record { acceptor = refl; spawner = refl; gates = refl; gave = refl })
+
+pub run_numbered_client-requires : goal.run_numbered_client-requires
+run_numbered_client-requires g c = has_numbers c.args.command.now _ c.in-NumberedClient.is c.requires.line
 
 pub returns-in-GetByJobs : goal.returns-in-GetByJobs
 returns-in-GetByJobs g c = rw c.in-GetByJobs.is (c.run_get.ensures, (refl, record { acceptor = refl; spawner = refl; gates = refl; gave = refl }))
