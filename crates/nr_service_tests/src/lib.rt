@@ -23,6 +23,8 @@ mod jobs;
 #[cfg(test)]
 mod links;
 #[cfg(test)]
+mod numbered_runs;
+#[cfg(test)]
 mod numbered_sessions;
 #[cfg(test)]
 mod numbers;

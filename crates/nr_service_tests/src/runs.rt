@@ -35,7 +35,7 @@ pub(crate) struct Case<'a> {
     pub(crate) sent: &'a str,
     status: u32,
     text: &'a str,
-    fault: &'a str,
+    pub(crate) fault: &'a str,
     printed: &'a str,
 }
 
@@ -131,7 +131,7 @@ fn sizes(rt: &impl Abort, alloc: Global, words: &str) -> Vec<usize> {
 }
 
 /// The number of the call that fails, if it is one of those with this name.
-fn faults(rt: &impl Abort, alloc: Global, fault: &str, name: &str) -> Vec<usize> {
+pub(crate) fn faults(rt: &impl Abort, alloc: Global, fault: &str, name: &str) -> Vec<usize> {
     let mut faults = Vec::new(alloc);
     if let Some(digits) = fault.strip_prefix(name) {
         faults
